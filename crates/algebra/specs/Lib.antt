@@ -1,0 +1,2 @@
+-- The algebra on which the schedules stand.
+pub mod Ring
