@@ -1,2 +1,6 @@
 -- The algebra on which the schedules stand.
 pub mod Ring
+pub mod Solver
+pub mod Sum
+pub mod Modulo
+pub mod Integers
