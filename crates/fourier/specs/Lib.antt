@@ -1,0 +1,8 @@
+-- The schedules, and what they compute.
+pub mod Reverse
+pub mod Schedules
+pub mod Sentences
+pub mod Array
+pub mod Embeddings
+pub mod Halves
+pub mod Leaves

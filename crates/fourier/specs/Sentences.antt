@@ -1,0 +1,170 @@
+-- Document 01's sentences about the stages, pair by pair; that the stages of Schedules are as they say, and that only they are.
+use Prim.Native.Nat.{ℕ, zero, suc, _+_, _-_, _*_, _/_, _%_, _^_, _<_}
+use mathlib.Core.Path.{_≡_, refl, sym, ap, _∙_}
+use mathlib.Core.Logic.{_⊎_, inl, inr}
+use native.Mathlib.Nat.{add-zero, zero-mul, zero-add, one-mul, two-pow-succ, pow-suc, add-mod-left, add-div-left, mod-eq-of-lt, div-eq-of-lt, mod-lt, mul-pos, div-add-mod', div-div-eq-div-mul, div-lt-iff-lt-mul, sub-zero}
+use native.Mathlib.Omega.{arith}
+use lib.Arith.{digits-div, digits-mod}
+use lib.Pow.{pow-pos, pow-add}
+use Rattle.fourier.specs.Reverse.{rev}
+use Rattle.fourier.specs.Schedules.{Wing, Buffer, Source, from, Stage, butterfly, shuffled, columns, shuffle, thong, pease, step, halves}
+
+-- ---- sizes: a stage halves the rows, and N/2 is what is left of them in all the columns
+
+pub rows : {n s : ℕ} → s < n → 2 ^ (n - s) ≡ 2 ^ (n - suc s) + 2 ^ (n - suc s)
+rows {n} {s} l = let e : n - s ≡ suc (n - suc s) = omega arith in rw e (two-pow-succ (n - suc s))
+
+pub two-halves : {n s : ℕ} → s < n → 2 ^ n ≡ 2 ^ (n - 1) + 2 ^ (n - 1)
+two-halves {n} l = let e : n ≡ suc (n - 1) = omega arith in ap (λ (z : ℕ). 2 ^ z) e ∙ two-pow-succ (n - 1)
+
+pub half-buffer : {n s : ℕ} → s < n → 2 ^ (n - suc s) * 2 ^ s ≡ 2 ^ (n - 1)
+half-buffer {n} {s} l = let e : n - 1 ≡ n - suc s + s = omega arith in rw (e, pow-add)
+
+-- ---- the sentences
+
+-- Places p and q receive the two parts of the step at the exponent e, on what stood at the places a and b.
+pub record Receive (σ : Stage) (p q e a b : ℕ) : Type 0 where
+  pub sum : σ p ≡ from 0 e a b
+  pub difference : σ q ≡ from 1 e a b
+
+-- Schedule 1: "Stage s works on N/2^s rows (call it r) and c = 2^s columns, r' = r/2. Places rj + i and rj + i + r' with j < c,
+-- i < r' receive the sum, and x^(c i) times the difference."
+abbrev pub ByColumns : ℕ → ℕ → Stage → Type 0
+ByColumns n s σ =
+    let r = 2 ^ (n - s) in
+    let c = 2 ^ s in
+    let r′ = 2 ^ (n - suc s) in
+    (j i : ℕ) → j < c → i < r′ → Receive σ (r * j + i) (r * j + i + r′) (c * i) (r * j + i) (r * j + i + r′)
+
+-- Schedule 2: "Places k and k + N/2 give places 2k (sum) and 2k + 1 (x^e times the difference), for k below N/2, e = k - (k mod 2^s)."
+abbrev pub ByShuffle : ℕ → ℕ → Stage → Type 0
+ByShuffle n s σ = (k : ℕ) → k < 2 ^ (n - 1) → Receive σ (2 * k) (2 * k + 1) (k - k % 2 ^ s) k (k + 2 ^ (n - 1))
+
+-- Schedule 4, with t + 1 for the document's t: "Stage t from 1 to n pairs l and l + 2^(t-1), where bit t - 1 of l is 0. The second is
+-- first multiplied by x^e, e = (N/2^t)(l mod 2^(t-1)); then sum and difference stay at the two places."
+abbrev pub ByThong : ℕ → ℕ → Stage → Type 0
+ByThong n t σ = (l : ℕ) → l < 2 ^ n → l / 2 ^ t % 2 ≡ 0 → Receive σ l (l + 2 ^ t) (2 ^ (n - suc t) * (l % 2 ^ t)) l (l + 2 ^ t)
+
+-- Schedule 5, likewise: "Stage t from 1 to n takes l and l + N/2, multiplies the second by x^e, and puts sum and difference at 2l and
+-- 2l + 1. e is N/2^t times the reversal of the low t - 1 bits of l."
+abbrev pub ByPease : ℕ → ℕ → Stage → Type 0
+ByPease n t σ = (l : ℕ) → l < 2 ^ (n - 1) → Receive σ (2 * l) (2 * l + 1) (2 ^ (n - suc t) * rev t (l % 2 ^ t)) l (l + 2 ^ (n - 1))
+
+-- ---- the pairs of a stage cover each place once
+
+-- Place p is part p / h % 2 of pair p % h in block p / h / 2, and of no other pair.
+pub pairs-cover : (h p : ℕ) → p ≡ p / h / 2 * (h + h) + p / h % 2 * h + p % h
+pairs-cover h p =
+    let j : p / h * h ≡ (p / h / 2 * 2 + p / h % 2) * h = ap (λ (z : ℕ). z * h) (omega arith) in
+    omega (arith, div-add-mod' p h)
+
+pub butterfly-pair : (stride h j i x : ℕ) → i < h → x < 2 → butterfly stride h (j * (h + h) + x * h + i) ≡ from x (stride * i) (j * (h + h) + i) (j * (h + h) + i + h)
+unfolding butterfly
+butterfly-pair stride h j i x hi hx =
+    let place : j * (h + h) + x * h + i ≡ (j + j + x) * h + i = omega arith in
+    let bit : (j + j + x) % 2 ≡ x = omega arith in
+    let half : (j + j + x) / 2 ≡ j = omega arith in
+    rw (place, digits-div, digits-mod, bit, half)
+
+pub pairs-once : (h j i x j′ i′ x′ : ℕ) → i < h → i′ < h → x < 2 → x′ < 2 → j * (h + h) + x * h + i ≡ j′ * (h + h) + x′ * h + i′ → (j ≡ j′) × (x ≡ x′) × (i ≡ i′)
+pairs-once h j i x j′ i′ x′ hi hi′ hx hx′ e =
+    let same = sym (butterfly-pair 1 h j i x hi hx) ∙ ap (butterfly 1 h) e ∙ butterfly-pair 1 h j′ i′ x′ hi′ hx′ in
+    let firsts : j * (h + h) + i ≡ j′ * (h + h) + i′ = ap (λ (c : Source). c .first) same in
+    let block : (j * (h + h) + i) / (h + h) ≡ (j′ * (h + h) + i′) / (h + h) = ap (λ (z : ℕ). z / (h + h)) firsts in
+    let row : 1 * i ≡ 1 * i′ = ap (λ (c : Source). c .exponent) same in
+    (sym (digits-div j (omega arith)) ∙ block ∙ digits-div j′ (omega arith), ap (λ (c : Source). c .part) same, omega arith)
+
+-- ---- the stages are as they say
+
+butterfly-receive : (stride h j i : ℕ) → i < h → Receive (butterfly stride h) (j * (h + h) + i) (j * (h + h) + i + h) (stride * i) (j * (h + h) + i) (j * (h + h) + i + h)
+butterfly-receive stride h j i hi =
+    let low : j * (h + h) + i ≡ j * (h + h) + 0 * h + i = omega arith in
+    let high : j * (h + h) + i + h ≡ j * (h + h) + 1 * h + i = omega arith in
+    record {
+      sum = ap (butterfly stride h) low ∙ butterfly-pair stride h j i 0 hi (omega arith);
+      difference = ap (butterfly stride h) high ∙ butterfly-pair stride h j i 1 hi (omega arith);
+    }
+
+pub shuffled-pair : (half : ℕ) (e : ℕ → ℕ) (k x : ℕ) → x < 2 → shuffled half e (2 * k + x) ≡ from x (e k) k (k + half)
+unfolding shuffled
+shuffled-pair half e k x hx =
+    let bit : (2 * k + x) % 2 ≡ x = omega arith in
+    let pair : (2 * k + x) / 2 ≡ k = omega arith in
+    rw (bit, pair)
+
+shuffled-receive : (half : ℕ) (e : ℕ → ℕ) (k : ℕ) → Receive (shuffled half e) (2 * k) (2 * k + 1) (e k) k (k + half)
+shuffled-receive half e k =
+    record { sum = rw add-zero at (shuffled-pair half e k 0 (omega arith)); difference = shuffled-pair half e k 1 (omega arith) }
+
+pub columns-says : (n s : ℕ) → s < n → ByColumns n s (columns n s)
+columns-says n s l j i hj hi =
+    let place : 2 ^ (n - s) * j + i ≡ j * (2 ^ (n - suc s) + 2 ^ (n - suc s)) + i = rw (rows l) (omega arith) in
+    rw place (butterfly-receive (2 ^ s) (2 ^ (n - suc s)) j i hi)
+
+pub shuffle-says : (n s : ℕ) → ByShuffle n s (shuffle n s)
+shuffle-says n s k h = shuffled-receive (2 ^ (n - 1)) (λ k. k - k % 2 ^ s) k
+
+pub thong-says : (n t : ℕ) → ByThong n t (thong n t)
+thong-says n t l h bit =
+    let place : l ≡ l / 2 ^ t / 2 * (2 ^ t + 2 ^ t) + l % 2 ^ t =
+        omega (arith, pairs-cover (2 ^ t) l, ap (λ (z : ℕ). z * 2 ^ t) bit) in
+    let both = butterfly-receive (2 ^ (n - suc t)) (2 ^ t) (l / 2 ^ t / 2) (l % 2 ^ t) (mod-lt l (pow-pos t)) in
+    rw (← place) at both
+
+pub pease-says : (n t : ℕ) → ByPease n t (pease n t)
+pease-says n t l h = shuffled-receive (2 ^ (n - 1)) (λ k. 2 ^ (n - suc t) * rev t (k % 2 ^ t)) l
+
+-- ---- and only they are
+
+alike : {σ τ : Stage} {p q e a b : ℕ} → Receive σ p q e a b → Receive τ p q e a b → (z : ℕ) → (z ≡ p) ⊎ (z ≡ q) → σ z ≡ τ z
+alike h l z (inl c) = rw c (h .sum ∙ sym (l .sum))
+alike h l z (inr c) = rw c (h .difference ∙ sym (l .difference))
+
+bit-either : (x : ℕ) → x < 2 → (x ≡ 0) ⊎ (x ≡ 1)
+bit-either zero h = inl refl
+bit-either (suc zero) h = inr refl
+bit-either (suc (suc x)) h = absurd (omega arith)
+
+in-butterfly : (h p : ℕ) → (p ≡ p / h / 2 * (h + h) + p % h) ⊎ (p ≡ p / h / 2 * (h + h) + p % h + h)
+in-butterfly h p = by (bit-either (p / h % 2) (omega arith)) (pairs-cover h p)
+  where
+    by : (p / h % 2 ≡ 0) ⊎ (p / h % 2 ≡ 1) → p ≡ p / h / 2 * (h + h) + p / h % 2 * h + p % h → (p ≡ p / h / 2 * (h + h) + p % h) ⊎ (p ≡ p / h / 2 * (h + h) + p % h + h)
+    by (inl c) e = inl (e ∙ rw c (omega arith))
+    by (inr c) e = inr (e ∙ rw c (omega arith))
+
+in-shuffle : (p : ℕ) → (p ≡ 2 * (p / 2)) ⊎ (p ≡ 2 * (p / 2) + 1)
+in-shuffle p = by (bit-either (p % 2) (omega arith))
+  where
+    by : (p % 2 ≡ 0) ⊎ (p % 2 ≡ 1) → (p ≡ 2 * (p / 2)) ⊎ (p ≡ 2 * (p / 2) + 1)
+    by (inl c) = inl (omega arith)
+    by (inr c) = inr (omega arith)
+
+pub columns-only : (n s : ℕ) → s < n → (σ : Stage) → ByColumns n s σ → (p : ℕ) → p < 2 ^ n → σ p ≡ columns n s p
+columns-only n s l σ says p hp =
+    let h = 2 ^ (n - suc s) in
+    let j = p / h / 2 in
+    let column : j < 2 ^ s =
+        rw div-div-eq-div-mul (div-lt-iff-lt-mul (mul-pos {n = 2} (pow-pos (n - suc s)) (omega arith)) .1 (omega (arith, half-buffer l, two-halves l))) in
+    let place : 2 ^ (n - s) * j + p % h ≡ j * (h + h) + p % h = rw (rows l) (omega arith) in
+    let row : p % h < h = mod-lt p (pow-pos (n - suc s)) in
+    alike (says j (p % h) column row) (columns-says n s l j (p % h) column row) p (rw place (in-butterfly h p))
+
+pub shuffle-only : (n s : ℕ) → s < n → (σ : Stage) → ByShuffle n s σ → (p : ℕ) → p < 2 ^ n → σ p ≡ shuffle n s p
+shuffle-only n s l σ says p hp =
+    let k : p / 2 < 2 ^ (n - 1) = omega (arith, two-halves l) in
+    alike (says (p / 2) k) (shuffle-says n s (p / 2) k) p (in-shuffle p)
+
+pub thong-only : (n t : ℕ) → t < n → (σ : Stage) → ByThong n t σ → (p : ℕ) → p < 2 ^ n → σ p ≡ thong n t p
+thong-only n t l σ says p hp =
+    let h = 2 ^ t in
+    let j = p / h / 2 in
+    let place : j * (h + h) + p % h ≡ (j + j) * h + p % h = omega arith in
+    let row : p % h < h = mod-lt p (pow-pos t) in
+    let below : j * (h + h) + p % h < 2 ^ n = omega (arith, pairs-cover h p) in
+    let bit : (j * (h + h) + p % h) / h % 2 ≡ 0 = rw (place, digits-div) (omega arith) in
+    alike (says (j * (h + h) + p % h) below bit) (thong-says n t (j * (h + h) + p % h) below bit) p (in-butterfly h p)
+
+pub pease-only : (n t : ℕ) → t < n → (σ : Stage) → ByPease n t σ → (p : ℕ) → p < 2 ^ n → σ p ≡ pease n t p
+pease-only n t l σ says p hp =
+    let k : p / 2 < 2 ^ (n - 1) = omega (arith, two-halves l) in
+    alike (says (p / 2) k) (pease-says n t (p / 2) k) p (in-shuffle p)
