@@ -1,7 +1,7 @@
 -- Identities of a commutative ring, by computation. An expression is brought to a normal form: a list of signed monomials in a fixed
 -- order, in which opposite ones have met and gone. Two expressions with one normal form have one value in every ring (`ring`).
 use mathlib.Core.Path.{_≡_, refl, sym, ap, ap₂, _∙_}
-use mathlib.Core.Bool.{Bool, true, false}
+use mathlib.Core.Bool.{Bool, true, false, cond, _&&_, Bool·beq}
 use mathlib.Core.List.{List, [], _∷_}
 use Prim.Native.Nat.{ℕ, zero, suc}
 use lib.Dec.{T, leb, eqb, eqb→eq}
@@ -25,29 +25,20 @@ pub data Polynomial : Type 0 where
   none : Polynomial
   term : Bool → List ℕ → Polynomial → Polynomial
 
-abbrev pub pick {ℓ} : {A : Type ℓ} → Bool → A → A → A
-pick true a b = a
-pick false a b = b
-
-abbrev pub equal : Bool → Bool → Bool
-equal true t = t
-equal false true = false
-equal false false = true
-
 abbrev pub same : List ℕ → List ℕ → Bool
 same [] [] = true
 same [] (y ∷ n) = false
 same (x ∷ m) [] = false
-same (x ∷ m) (y ∷ n) = pick (eqb x y) (same m n) false
+same (x ∷ m) (y ∷ n) = eqb x y && same m n
 
 abbrev pub before : List ℕ → List ℕ → Bool
 before [] n = true
 before (x ∷ m) [] = false
-before (x ∷ m) (y ∷ n) = pick (eqb x y) (before m n) (leb x y)
+before (x ∷ m) (y ∷ n) = cond (eqb x y) (before m n) (leb x y)
 
 abbrev pub insert : ℕ → List ℕ → List ℕ
 insert x [] = x ∷ []
-insert x (y ∷ m) = pick (leb x y) (x ∷ (y ∷ m)) (y ∷ insert x m)
+insert x (y ∷ m) = cond (leb x y) (x ∷ (y ∷ m)) (y ∷ insert x m)
 
 abbrev pub join : List ℕ → List ℕ → List ℕ
 join [] n = n
@@ -57,9 +48,9 @@ join (x ∷ m) n = insert x (join m n)
 abbrev pub put : Bool → List ℕ → Polynomial → Polynomial
 put s m none = term s m none
 put s m (term t n p) =
-    pick (same m n)
-    (pick (equal s t) (term s m (term t n p)) p)
-    (pick (before m n) (term s m (term t n p)) (term t n (put s m p)))
+    cond (same m n)
+    (cond (Bool·beq s t) (term s m (term t n p)) p)
+    (cond (before m n) (term s m (term t n p)) (term t n (put s m p)))
 
 abbrev pub add : Polynomial → Polynomial → Polynomial
 add none q = q
@@ -67,7 +58,7 @@ add (term s m p) q = put s m (add p q)
 
 abbrev pub scale : Bool → List ℕ → Polynomial → Polynomial
 scale s m none = none
-scale s m (term t n p) = put (equal s t) (join m n) (scale s m p)
+scale s m (term t n p) = put (Bool·beq s t) (join m n) (scale s m p)
 
 abbrev pub multiply : Polynomial → Polynomial → Polynomial
 multiply none q = none
@@ -117,14 +108,14 @@ module _ {K : Type 0} (R : Ring K) (ρ : List K) where
 
   -- ---- the normal form has the expression's value
 
-  pick-either : {A : Type 0} (f : A → K) (b : Bool) (x y : A) (z : K) → (T b → f x ≡ z) → f y ≡ z → f (pick b x y) ≡ z
-  pick-either f true x y z g h = g tt
-  pick-either f false x y z g h = h
+  cond-either : {A : Type 0} (f : A → K) (b : Bool) (x y : A) (z : K) → (T b → f x ≡ z) → f y ≡ z → f (cond b x y) ≡ z
+  cond-either f true x y z g h = g tt
+  cond-either f false x y z g h = h
 
   product-insert : (x : ℕ) (m : List ℕ) → product (insert x m) ≡ look ρ x ⊗ product m
   unfolding product
   product-insert x [] = refl
-  product-insert x (y ∷ m) = pick-either product (leb x y) (x ∷ (y ∷ m)) (y ∷ insert x m) (look ρ x ⊗ product (y ∷ m)) (λ t. refl)
+  product-insert x (y ∷ m) = cond-either product (leb x y) (x ∷ (y ∷ m)) (y ∷ insert x m) (look ρ x ⊗ product (y ∷ m)) (λ t. refl)
       (ap (λ z. look ρ y ⊗ z) (product-insert x m) ∙ times-left-comm R (look ρ y) (look ρ x) (product m))
 
   product-join : (m n : List ℕ) → product (join m n) ≡ product m ⊗ product n
@@ -138,18 +129,18 @@ module _ {K : Type 0} (R : Ring K) (ρ : List K) where
   same→eq (x ∷ m) [] t = absurd t
   same→eq (x ∷ m) (y ∷ n) t = both (eqb x y) (same m n) (eqb→eq x y) (same→eq m n) t
     where
-      both : (a b : Bool) → (T a → x ≡ y) → (T b → m ≡ n) → T (pick a b false) → x ∷ m ≡ y ∷ n
+      both : (a b : Bool) → (T a → x ≡ y) → (T b → m ≡ n) → T (a && b) → x ∷ m ≡ y ∷ n
       both true b f g t = ap₂ _∷_ (f tt) (g t)
       both false b f g t = absurd t
 
-  signed-equal : (s t : Bool) (a b : K) → signed (equal s t) (a ⊗ b) ≡ signed s a ⊗ signed t b
+  signed-beq : (s t : Bool) (a b : K) → signed (Bool·beq s t) (a ⊗ b) ≡ signed s a ⊗ signed t b
   unfolding signed
-  signed-equal true true a b = refl
-  signed-equal true false a b = sym (times-neg R a b)
-  signed-equal false true a b = sym (neg-times R a b)
-  signed-equal false false a b = sym (neg-times R a (neg b) ∙ ap neg (times-neg R a b) ∙ neg-neg R (a ⊗ b))
+  signed-beq true true a b = refl
+  signed-beq true false a b = sym (times-neg R a b)
+  signed-beq false true a b = sym (neg-times R a b)
+  signed-beq false false a b = sym (neg-times R a (neg b) ∙ ap neg (times-neg R a b) ∙ neg-neg R (a ⊗ b))
 
-  total-meet : (s t : Bool) (m : List ℕ) (p : Polynomial) → total (pick (equal s t) (term s m (term t m p)) p) ≡ signed s (product m) ⊕ total (term t m p)
+  total-meet : (s t : Bool) (m : List ℕ) (p : Polynomial) → total (cond (Bool·beq s t) (term s m (term t m p)) p) ≡ signed s (product m) ⊕ total (term t m p)
   unfolding total signed
   total-meet true true m p = refl
   total-meet false false m p = refl
@@ -160,9 +151,9 @@ module _ {K : Type 0} (R : Ring K) (ρ : List K) where
   unfolding total
   total-put s m none = refl
   total-put s m (term t n p) =
-      pick-either total (same m n) _ _ z
+      cond-either total (same m n) _ _ z
       (λ e. rw (same→eq m n e) (total-meet s t n p))
-      (pick-either total (before m n) (term s m (term t n p)) (term t n (put s m p)) z (λ e. refl)
+      (cond-either total (before m n) (term s m (term t n p)) (term t n (put s m p)) z (λ e. refl)
       (ap (λ y. signed t (product n) ⊕ y) (total-put s m p) ∙ plus-left-comm R (signed t (product n)) (signed s (product m)) (total p)))
     where
       z : K
@@ -177,8 +168,8 @@ module _ {K : Type 0} (R : Ring K) (ρ : List K) where
   unfolding total
   total-scale s m none = sym (times-zero R (signed s (product m)))
   total-scale s m (term t n p) =
-      total-put (equal s t) (join m n) (scale s m p)
-      ∙ ap₂ _⊕_ (ap (signed (equal s t)) (product-join m n) ∙ signed-equal s t (product m) (product n)) (total-scale s m p)
+      total-put (Bool·beq s t) (join m n) (scale s m p)
+      ∙ ap₂ _⊕_ (ap (signed (Bool·beq s t)) (product-join m n) ∙ signed-beq s t (product m) (product n)) (total-scale s m p)
       ∙ sym (times-plus (signed s (product m)) (signed t (product n)) (total p))
 
   total-multiply : (p q : Polynomial) → total (multiply p q) ≡ total p ⊗ total q

@@ -6,3 +6,6 @@ pub mod Array
 pub mod Embeddings
 pub mod Halves
 pub mod Leaves
+pub mod Fourier
+pub mod Inverse
+pub mod Table

@@ -76,7 +76,7 @@ pairs-once h j i x j′ i′ x′ hi hi′ hx hx′ e =
 
 -- ---- the stages are as they say
 
-butterfly-receive : (stride h j i : ℕ) → i < h → Receive (butterfly stride h) (j * (h + h) + i) (j * (h + h) + i + h) (stride * i) (j * (h + h) + i) (j * (h + h) + i + h)
+pub butterfly-receive : (stride h j i : ℕ) → i < h → Receive (butterfly stride h) (j * (h + h) + i) (j * (h + h) + i + h) (stride * i) (j * (h + h) + i) (j * (h + h) + i + h)
 butterfly-receive stride h j i hi =
     let low : j * (h + h) + i ≡ j * (h + h) + 0 * h + i = omega arith in
     let high : j * (h + h) + i + h ≡ j * (h + h) + 1 * h + i = omega arith in
@@ -125,7 +125,7 @@ bit-either zero h = inl refl
 bit-either (suc zero) h = inr refl
 bit-either (suc (suc x)) h = absurd (omega arith)
 
-in-butterfly : (h p : ℕ) → (p ≡ p / h / 2 * (h + h) + p % h) ⊎ (p ≡ p / h / 2 * (h + h) + p % h + h)
+pub in-butterfly : (h p : ℕ) → (p ≡ p / h / 2 * (h + h) + p % h) ⊎ (p ≡ p / h / 2 * (h + h) + p % h + h)
 in-butterfly h p = by (bit-either (p / h % 2) (omega arith)) (pairs-cover h p)
   where
     by : (p / h % 2 ≡ 0) ⊎ (p / h % 2 ≡ 1) → p ≡ p / h / 2 * (h + h) + p / h % 2 * h + p % h → (p ≡ p / h / 2 * (h + h) + p % h) ⊎ (p ≡ p / h / 2 * (h + h) + p % h + h)

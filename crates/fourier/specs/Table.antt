@@ -1,0 +1,48 @@
+-- The rules of a table modulo m, place by place, and that an accepted table is the powers of a root with x^(N/2) = -1.
+use Prim.Native.Nat.{ℕ, zero, suc, _+_, _-_, _*_, _/_, _%_, _^_, _<_, _≤_}
+use mathlib.Core.Path.{_≡_, refl, sym, ap, _∙_}
+use mathlib.Core.Bool.{Bool, true, false, cond, _&&_, and-eq-true-iff}
+use mathlib.Core.Logic.{_⊎_, inl, inr}
+use native.Mathlib.Nat.{le-refl, le-of-lt, le-step, mod-lt, mod-eq-of-lt, mod-mod}
+use native.Mathlib.Omega.{arith}
+use native.Mathlib.Decide.{decLt}
+use lib.Dec.{ltb, eqb}
+use borrow.Author.Tests.{ltb-true, eqb-true, lt-ltb, le-ltb, eq-eqb}
+use Rattle.algebra.specs.Ring.{Ring, neg-times, one-times}
+use Rattle.algebra.specs.Sum.{pow, pow-zero, pow-suc, pow-plus, of-pow}
+use Rattle.algebra.specs.Modulo.{Mod, modulo, of-number, of-mod, of-minus, of-injective}
+
+-- ---- document 01's rules, for a table t of h = N/2 entries
+
+-- "Its root x is its second entry, or m - 1 when N = 2."
+unfoldable pub root : ℕ → ℕ → (ℕ → ℕ) → ℕ
+root m h t = cond (eqb h 1) (m - 1) (t 1)
+
+-- What the rules want at place i: 1 at the first, and "each entry from place 1 is the one before it times x modulo m".
+unfoldable pub wanted : ℕ → ℕ → (ℕ → ℕ) → ℕ → ℕ
+wanted m h t zero = 1
+wanted m h t (suc i) = t i * root m h t % m
+
+-- Whether the rules hold at place i: an entry is below m and what is wanted; at h, "the last entry times x is m - 1".
+unfoldable pub rule : ℕ → ℕ → (ℕ → ℕ) → ℕ → Bool
+rule m h t i = cond (ltb i h) (ltb (t i) m && eqb (t i) (wanted m h t i)) (eqb (wanted m h t i) (m - 1))
+
+-- The table is accepted: the rules hold at every place, and at h.
+pub record Accepted (m h : ℕ) (t : ℕ → ℕ) : Type 0 where
+  pub at : (i : ℕ) → i ≤ h → rule m h t i ≡ true
+
+-- "An exponent e from N/2 to N - 1 means minus the entry at e - N/2."
+unfoldable pub lookup : ℕ → ℕ → (ℕ → ℕ) → ℕ → ℕ
+lookup m h t e = cond (ltb e h) (t e) ((m - t (e - h)) % m)
+
+-- ---- the rules as equations
+
+pub rule-entry : (m h : ℕ) (t : ℕ → ℕ) (i : ℕ) → i < h → rule m h t i ≡ true → (t i < m) × (t i ≡ wanted m h t i)
+unfolding rule
+rule-entry m h t i l r =
+    let both = and-eq-true-iff .0 (rw (lt-ltb i h l) at r) in
+    (ltb-true (t i) m (both .0), eqb-true (t i) (wanted m h t i) (both .1))
+
+pub rule-closing : (m h : ℕ) (t : ℕ → ℕ) → rule m h t h ≡ true → wanted m h t h ≡ m - 1
+unfolding rule
+rule-closing m h t r = eqb-true (wanted m h t h) (m - 1) (rw (le-ltb h h (le-refl h)) at r)
