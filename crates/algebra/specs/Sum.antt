@@ -1,7 +1,7 @@
 -- Powers and finite sums in a commutative ring, and the sum of natural numbers.
 use mathlib.Core.Path.{_≡_, refl, sym, ap, ap₂, _∙_}
 use mathlib.Core.List.{List, [], _∷_}
-use Prim.Native.Nat.{ℕ, zero, suc, _+_, _*_, _^_, _<_}
+use Prim.Native.Nat.{ℕ, zero, suc, _+_, _*_, _/_, _%_, _^_, _<_}
 use native.Mathlib.Nat as N
 use native.Mathlib.Omega.{arith}
 use Rattle.algebra.specs.Ring.{Ring, one-times}
@@ -58,6 +58,10 @@ module _ {K : Type 0} (R : Ring K) where
 
   pub one-pow : (n : ℕ) → pow (of 1) n ≡ of 1
   one-pow n = elim n [ zero ↦ pow-zero (of 1) | suc (n → ih) ↦ rw (pow-suc, ih) (times-one (of 1)) ]
+
+  -- Powers of what comes round after n.
+  pub pow-mod : (x : K) (n : ℕ) → pow x n ≡ of 1 → (e : ℕ) → pow x (e % n) ≡ pow x e
+  pow-mod x n round e = sym (ap (pow x) (sym (N.div-add-mod e n)) ∙ rw (pow-plus, pow-times, round, one-pow) (one-times R (pow x (e % n))))
 
   pub of-pow : (a n : ℕ) → of (a ^ n) ≡ pow (of a) n
   of-pow a n = elim n [ zero ↦ rw (N.pow-zero, pow-zero) | suc (n → ih) ↦ rw (N.pow-suc, pow-suc, of-times, ih) ]

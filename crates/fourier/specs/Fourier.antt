@@ -97,16 +97,22 @@ module _ {K : Type 0} (R : Ring K) where
         where
           c : ℕ
           c = 2 ^ s
+
           h : ℕ
           h = 2 ^ (n - suc s)
+
           B : ℕ → K
           B i = array (in-frequency (pow R x)) frequency n A s i (j / 2)
+
           g : ℕ → K
           g i = B i ⊗ pow R x (c * i * (2 * k + j % 2))
+
           mate : (i : ℕ) → i + h ≡ h + i
           mate i = omega arith
+
           turn : pow R x (c * h) ≡ neg (of 1)
           turn = rw (mul-comm, half-buffer l) root
+
           place : c * (2 * k + j % 2) + rev s (j / 2) ≡ 2 ^ suc s * k + (j % 2 * c + rev s (j / 2))
           place = rw pow-suc (omega arith)
 

@@ -51,7 +51,7 @@ module _ {C : Type 0} (w : Wing C) where
           let rest : n - suc s ≡ m = omega arith in
           let stage : Part k (suc m) (step w (butterfly (2 ^ s) h) d) (run w (columns n) (suc s) A) = rw rest (butterfly-part (2 ^ s) f) in
           let half : Part (k + k + p / h) m (λ q. step w (butterfly (2 ^ s) h) d (p / h * h + q)) (run w (columns n) (suc s) A) =
-              record { at = λ q. stage .at (p / h * h + q) ∙ ap (run w (columns n) (suc s) A) (rw pow-suc (omega arith)) } in
+          record { at = λ q. stage .at (p / h * h + q) ∙ ap (run w (columns n) (suc s) A) (rw pow-suc (omega arith)) } in
           rw (← two-pow-succ s)
           (halves-part m (suc s) (omega arith) half .at (p % h) ∙ ap (run w (columns n) n A) (rw pow-suc (omega (arith, div-add-mod' p h))));
     }

@@ -46,16 +46,22 @@ module _ {K : Type 0} (R : Ring K) where
       where
         h : ℕ
         h = 2 ^ (n - suc s)
+
         q : ℕ
         q = p / h / 2 * (h + h) + p % h
+
         row : p % h < h
         row = mod-lt p (pow-pos (n - suc s))
+
         e : ℕ
         e = 2 ^ s * (p % h)
+
         tabled : e < 2 ^ (n - 1)
         tabled = leaves1 n .tabled s (p % h) 0 l row
+
         pair : Receive (columns n s) q (q + h) e q (q + h)
         pair = butterfly-receive (2 ^ s) h (p / h / 2) (p % h) row
+
         by : (z : ℕ) → (z ≡ q) ⊎ (z ≡ q + h) → step y (columns n s) (step w (columns n s) d) z ≡ of 2 ⊗ d z
         by z (inl c) = rw (c, pair .sum, pair .sum, pair .difference) (undoes .first e (d q) (d (q + h)) tabled)
         by z (inr c) = rw (c, pair .difference, pair .sum, pair .difference) (undoes .second e (d q) (d (q + h)) tabled)
@@ -68,9 +74,14 @@ module _ {K : Type 0} (R : Ring K) where
     stages-undone σ τ stage d (suc t) l p =
         let more : n - t ≡ suc (n - suc t) = omega arith in
         let c = pow R (of 2) t in
-        rw (stages-undone σ τ stage d t (omega arith) (τ t p .first), stages-undone σ τ stage d t (omega arith) (τ t p .second), more,
-            undoes .factor (τ t p .part) (τ t p .exponent) c (step w (σ (n - suc t)) (run w σ (n - suc t) d) (τ t p .first)) (step w (σ (n - suc t)) (run w σ (n - suc t) d) (τ t p .second)),
-            stage t l (run w σ (n - suc t) d) p, pow-suc)
+        rw (
+          stages-undone σ τ stage d t (omega arith) (τ t p .first),
+          stages-undone σ τ stage d t (omega arith) (τ t p .second),
+          more,
+          undoes .factor (τ t p .part) (τ t p .exponent) c (step w (σ (n - suc t)) (run w σ (n - suc t) d) (τ t p .first)) (step w (σ (n - suc t)) (run w σ (n - suc t) d) (τ t p .second)),
+          stage t l (run w σ (n - suc t) d) p,
+          pow-suc,
+        )
         (sym (times-assoc c (of 2) (run w σ (n - suc t) d p)))
 
     -- A factor goes through every stage.

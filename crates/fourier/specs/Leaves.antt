@@ -98,8 +98,8 @@ module _ {A B : Type 0} (n : ℕ) (R : ℕ → A → B → Type 0) {v : Wing A} 
   related {e} {order} {f} leaves a b start p h =
       let q : order p < 2 ^ n = leaves .within p h in
       let ends : R n (f A v a (order (order p))) (f B w b (order (order p))) =
-          rw (leaves .last A v a (order p) q, leaves .last B w b (order p) q)
-          (array-related e (leaves .tabled) (λ i. a (order i)) (λ i. b (order i)) (λ i l. start (order i) (leaves .within i l)) n 0 (order p) (le-refl n) (pow-pos (n - n))) in
+      rw (leaves .last A v a (order p) q, leaves .last B w b (order p) q)
+      (array-related e (leaves .tabled) (λ i. a (order i)) (λ i. b (order i)) (λ i l. start (order i) (leaves .within i l)) n 0 (order p) (le-refl n) (pow-pos (n - n))) in
       rw (leaves .again p h) at ends
 
 -- No place outside the N is read: equality is a relation that every step keeps.

@@ -9,3 +9,4 @@ pub mod Leaves
 pub mod Fourier
 pub mod Inverse
 pub mod Table
+pub mod Numbers

@@ -107,7 +107,7 @@ shuffle-says n s k h = shuffled-receive (2 ^ (n - 1)) (λ k. k - k % 2 ^ s) k
 pub thong-says : (n t : ℕ) → ByThong n t (thong n t)
 thong-says n t l h bit =
     let place : l ≡ l / 2 ^ t / 2 * (2 ^ t + 2 ^ t) + l % 2 ^ t =
-        omega (arith, pairs-cover (2 ^ t) l, ap (λ (z : ℕ). z * 2 ^ t) bit) in
+    omega (arith, pairs-cover (2 ^ t) l, ap (λ (z : ℕ). z * 2 ^ t) bit) in
     let both = butterfly-receive (2 ^ (n - suc t)) (2 ^ t) (l / 2 ^ t / 2) (l % 2 ^ t) (mod-lt l (pow-pos t)) in
     rw (← place) at both
 
@@ -144,7 +144,7 @@ columns-only n s l σ says p hp =
     let h = 2 ^ (n - suc s) in
     let j = p / h / 2 in
     let column : j < 2 ^ s =
-        rw div-div-eq-div-mul (div-lt-iff-lt-mul (mul-pos {n = 2} (pow-pos (n - suc s)) (omega arith)) .1 (omega (arith, half-buffer l, two-halves l))) in
+    rw div-div-eq-div-mul (div-lt-iff-lt-mul (mul-pos {n = 2} (pow-pos (n - suc s)) (omega arith)) .1 (omega (arith, half-buffer l, two-halves l))) in
     let place : 2 ^ (n - s) * j + p % h ≡ j * (h + h) + p % h = rw (rows l) (omega arith) in
     let row : p % h < h = mod-lt p (pow-pos (n - suc s)) in
     alike (says j (p % h) column row) (columns-says n s l j (p % h) column row) p (rw place (in-butterfly h p))

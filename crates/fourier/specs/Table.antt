@@ -37,12 +37,62 @@ lookup m h t e = cond (ltb e h) (t e) ((m - t (e - h)) % m)
 
 -- ---- the rules as equations
 
-pub rule-entry : (m h : ℕ) (t : ℕ → ℕ) (i : ℕ) → i < h → rule m h t i ≡ true → (t i < m) × (t i ≡ wanted m h t i)
+rule-entry : (m h : ℕ) (t : ℕ → ℕ) (i : ℕ) → i < h → rule m h t i ≡ true → (t i < m) × (t i ≡ wanted m h t i)
 unfolding rule
 rule-entry m h t i l r =
-    let both = and-eq-true-iff .0 (rw (lt-ltb i h l) at r) in
+    let both = and-eq-true-iff (ltb (t i) m) (eqb (t i) (wanted m h t i)) .0 (rw (lt-ltb i h l) at r) in
     (ltb-true (t i) m (both .0), eqb-true (t i) (wanted m h t i) (both .1))
 
-pub rule-closing : (m h : ℕ) (t : ℕ → ℕ) → rule m h t h ≡ true → wanted m h t h ≡ m - 1
+rule-closing : (m h : ℕ) (t : ℕ → ℕ) → rule m h t h ≡ true → wanted m h t h ≡ m - 1
 unfolding rule
 rule-closing m h t r = eqb-true (wanted m h t h) (m - 1) (rw (le-ltb h h (le-refl h)) at r)
+
+-- ---- an accepted table, in the ring of residues
+
+module _ (m h : ℕ) (pos : 0 < m) (t : ℕ → ℕ) (accepted : Accepted m h t) where
+  infixl 70 _⊗_
+  open Ring (modulo m pos) using (_⊗_, neg, of, of-times)
+
+  x : ℕ
+  x = root m h t
+
+  -- The product behind entry i, and from the closing rule -1.
+  wanted-pow : (i : ℕ) → i ≤ h → of (wanted m h t i) ≡ pow (modulo m pos) (of x) i
+  unfolding wanted x
+  wanted-pow zero l = sym (pow-zero (modulo m pos) (of x))
+  wanted-pow (suc i) l =
+      of-mod m pos (t i * x)
+      ∙ rw (of-times, pow-suc, rule-entry m h t i l (accepted .at i (le-of-lt l)) .1, wanted-pow i (le-of-lt l))
+
+  pub entry-below : (i : ℕ) → i < h → t i < m
+  entry-below i l = rule-entry m h t i l (accepted .at i (le-of-lt l)) .0
+
+  -- Entry i is x^i.
+  pub entry-pow : (i : ℕ) → i < h → of (t i) ≡ pow (modulo m pos) (of (root m h t)) i
+  unfolding x
+  entry-pow i l = rw (rule-entry m h t i l (accepted .at i (le-of-lt l)) .1) (wanted-pow i (le-of-lt l))
+
+  -- "So x^(N/2) is -1."
+  pub root-pow : pow (modulo m pos) (of (root m h t)) h ≡ neg (of 1)
+  unfolding x
+  root-pow = sym (wanted-pow h (le-refl h)) ∙ rw (rule-closing m h t (accepted .at h (le-refl h))) (of-minus m pos 1 pos)
+
+  -- The lookup at any exponent below N.
+  pub lookup-pow : (e : ℕ) → e < h + h → of (lookup m h t e) ≡ pow (modulo m pos) (of (root m h t)) e
+  unfolding lookup
+  lookup-pow e l = by (decLt e h)
+    where
+      by : Dec (e < h) → of (lookup m h t e) ≡ pow (modulo m pos) (of (root m h t)) e
+      by (yes low) = rw (lt-ltb e h low) (entry-pow e low)
+      by (no high) =
+          let k : e - h < h = omega arith in
+          let whole : pow (modulo m pos) (of (root m h t)) e ≡ neg (of 1) ⊗ of (t (e - h)) =
+          (let z : e ≡ h + (e - h) = omega arith in ap (pow (modulo m pos) (of (root m h t))) z ∙ rw (pow-plus, root-pow, ← entry-pow (e - h) k)) in
+          rw (le-ltb e h (omega arith), of-mod, of-minus m pos (t (e - h)) (le-of-lt (entry-below (e - h) k)), whole)
+          (sym (neg-times (modulo m pos) (of 1) (of (t (e - h))) ∙ ap neg (one-times (modulo m pos) (of (t (e - h))))))
+
+-- In numbers.
+pub root-power : (m h : ℕ) → 0 < m → (t : ℕ → ℕ) → Accepted m h t → root m h t ^ h % m ≡ m - 1
+root-power m h pos t accepted =
+    of-injective m pos (mod-lt (root m h t ^ h) pos) (omega arith)
+    (of-mod m pos (root m h t ^ h) ∙ of-pow (modulo m pos) (root m h t) h ∙ root-pow m h pos t accepted ∙ sym (of-minus m pos 1 pos))

@@ -1,0 +1,196 @@
+-- The schedules on numbers below m with a table, and the sums and the inverse in plain numbers.
+use Prim.Native.Nat.{ℕ, zero, suc, _+_, _-_, _*_, _/_, _%_, _^_, _<_, _≤_}
+use mathlib.Core.Path.{_≡_, refl, sym, ap, _∙_}
+use mathlib.Core.List.{List, []}
+use native.Mathlib.Nat.{le-refl, le-of-lt, mod-lt, mod-eq-of-lt, sub-zero, mod-self, sub-add-cancel, two-pow-succ}
+use native.Mathlib.Omega.{arith}
+use lib.Pow.{pow-pos}
+use Rattle.algebra.specs.Ring.{Ring, neg-times, neg-neg, one-times}
+use Rattle.algebra.specs.Solver.{Expression, :1, _:*_, :neg, ring}
+use Rattle.algebra.specs.Sum.{pow, sum, total, pow-plus, pow-mod, of-pow, of-total, sum-cong}
+use Rattle.algebra.specs.Modulo.{Mod, modulo, of-number, of-mod, of-minus, of-modulus, of-injective}
+use Rattle.fourier.specs.Reverse.{rev}
+use Rattle.fourier.specs.Schedules.{Wing, Buffer, thong, run}
+use Rattle.fourier.specs.Sentences.{two-halves}
+use Rattle.fourier.specs.Array.{Exponents, frequency, time}
+use Rattle.fourier.specs.Leaves.{Schedule, Leaves, Keeps, related, leaves4}
+use Rattle.fourier.specs.Fourier.{fourier, in-frequency, in-time, Decimates, decimates-frequency, decimates-time, sums}
+use Rattle.fourier.specs.Inverse.{inverse, inverse-sums, sums-inverse}
+use Rattle.fourier.specs.Table.{root, Accepted, lookup, entry-pow, root-pow, lookup-pow}
+
+-- ---- definitions
+
+-- f(j) = the sum over k of A(k) x^(jk) modulo m, "as a number from 0 to m - 1".
+unfoldable pub fourier-mod : ℕ → ℕ → ℕ → (ℕ → ℕ) → ℕ → ℕ
+fourier-mod m x N A j = total N (λ k. A k * x ^ (j * k)) % m
+
+-- Sum, difference and product modulo m.
+abbrev pub plus-mod : ℕ → ℕ → ℕ → ℕ
+plus-mod m a b = (a + b) % m
+
+abbrev pub minus-mod : ℕ → ℕ → ℕ → ℕ
+minus-mod m a b = (a + (m - b)) % m
+
+abbrev pub times-mod : ℕ → ℕ → ℕ → ℕ
+times-mod m a b = a * b % m
+
+-- The step of schedules 1, 2 and 3: the sum, and x^e times the difference; t e is x^e.
+abbrev pub frequency-mod : ℕ → (ℕ → ℕ) → Wing ℕ
+frequency-mod m t zero e a b = plus-mod m a b
+frequency-mod m t (suc x) e a b = times-mod m (t e) (minus-mod m a b)
+
+-- The step of schedules 4 and 5: the second times x^e; then sum and difference.
+abbrev pub time-mod : ℕ → (ℕ → ℕ) → Wing ℕ
+time-mod m t zero e a b = plus-mod m a (times-mod m (t e) b)
+time-mod m t (suc x) e a b = minus-mod m a (times-mod m (t e) b)
+
+-- x^(-e), looked up at the exponent (N - e) mod N, for N = 2^n.
+unfoldable pub back : ℕ → ℕ → (ℕ → ℕ) → ℕ → ℕ
+back m n t e = lookup m (2 ^ (n - 1)) t ((2 ^ n - e) % 2 ^ n)
+
+-- The inverse: T1 with x^(-e), and "the factor 1/N is ((m + 1)/2)^n modulo m".
+unfoldable pub inverse-mod : ℕ → ℕ → (ℕ → ℕ) → Buffer ℕ → Buffer ℕ
+inverse-mod m n t d p = times-mod m (((m + 1) / 2) ^ n % m) (run (time-mod m (back m n t)) (thong n) n d p)
+
+-- ---- numbers that stand for residues
+
+module _ (m : ℕ) (pos : 0 < m) where
+  infixl 65 _⊕_
+  infixl 70 _⊗_
+  open Ring (modulo m pos) using (_⊕_, _⊗_, neg, of, of-plus, of-times, plus-zero, times-one)
+
+  -- The number v is below m, and u is its residue.
+  pub record Stands (v : ℕ) (u : Mod m) : Type 0 where
+    pub same : of v ≡ u
+    pub below : v < m
+
+  stands-mod : (v : ℕ) {u : Mod m} → of v ≡ u → Stands (v % m) u
+  stands-mod v h = record { same = of-mod m pos v ∙ h; below = mod-lt v pos }
+
+  plus-stands : {a b : ℕ} {u v : Mod m} → Stands a u → Stands b v → Stands (plus-mod m a b) (u ⊕ v)
+  plus-stands {a} {b} h l = stands-mod (a + b) (rw (of-plus, h .same, l .same))
+
+  minus-stands : {a b : ℕ} {u v : Mod m} → Stands a u → Stands b v → Stands (minus-mod m a b) (u ⊕ neg v)
+  minus-stands {a} {b} h l = stands-mod (a + (m - b)) (rw (of-plus, of-minus m pos b (le-of-lt (l .below)), h .same, l .same))
+
+  times-stands : (a : ℕ) {b : ℕ} {u v : Mod m} → of a ≡ u → Stands b v → Stands (times-mod m a b) (u ⊗ v)
+  times-stands a {b} h l = stands-mod (a * b) (rw (of-times, h, l .same))
+
+  fourier-stands : (x N : ℕ) (A : ℕ → ℕ) (j : ℕ) → Stands (fourier-mod m x N A j) (fourier (modulo m pos) (of x) N (λ k. of (A k)) j)
+  unfolding fourier-mod fourier
+  fourier-stands x N A j =
+      stands-mod (total N (λ k. A k * x ^ (j * k)))
+      (of-total (modulo m pos) N (λ k. A k * x ^ (j * k)) ∙ sum-cong (modulo m pos) N (λ k l. of-times (A k) (x ^ (j * k)) ∙ ap (λ z. of (A k) ⊗ z) (of-pow (modulo m pos) x (j * k))))
+
+  -- One residue, one number below m.
+  stands-same : {a b : ℕ} {u : Mod m} → Stands a u → Stands b u → a ≡ b
+  stands-same h l = of-injective m pos (h .below) (l .below) (h .same ∙ sym (l .same))
+
+  module _ (n : ℕ) (t : ℕ → ℕ) (u : ℕ → Mod m) (table : (e : ℕ) → e < 2 ^ (n - 1) → of (t e) ≡ u e) where
+    frequency-keeps : Keeps n (λ s. Stands) (frequency-mod m t) (in-frequency (modulo m pos) u)
+    frequency-keeps s zero e a c b d l h g = plus-stands h g
+    frequency-keeps s (suc x) e a c b d l h g = times-stands (t e) (table e l) (minus-stands h g)
+
+    time-keeps : Keeps n (λ s. Stands) (time-mod m t) (in-time (modulo m pos) u)
+    time-keeps s zero e a c b d l h g = plus-stands h (times-stands (t e) (table e l) g)
+    time-keeps s (suc x) e a c b d l h g = minus-stands h (times-stands (t e) (table e l) g)
+
+  -- ---- with an accepted table, for N = 2^n
+
+  module _ (n : ℕ) (t : ℕ → ℕ) (accepted : Accepted m (2 ^ (n - 1)) t) where
+    abbrev pub the-root : ℕ
+    the-root = root m (2 ^ (n - 1)) t
+
+    abbrev pub turn : pow (modulo m pos) (of the-root) (2 ^ (n - 1)) ≡ neg (of 1)
+    turn = root-pow m (2 ^ (n - 1)) pos t accepted
+
+    powers : ℕ → Mod m
+    powers = pow (modulo m pos) (of the-root)
+
+    -- A step on numbers that does what some step of a decimation does on residues.
+    pub record Computes (e : Exponents) (w : Wing ℕ) : Type 0 where
+      pub wing : Wing (Mod m)
+      pub keeps : Keeps n (λ s. Stands) w wing
+      pub decimates : Decimates (modulo m pos) (of the-root) n turn e wing
+
+    pub frequency-computes : Computes frequency (frequency-mod m t)
+    unfolding powers
+    frequency-computes = record {
+      wing = in-frequency (modulo m pos) powers;
+      keeps = frequency-keeps n t powers (entry-pow m (2 ^ (n - 1)) pos t accepted);
+      decimates = decimates-frequency (modulo m pos) (of the-root) n turn;
+    }
+
+    pub time-computes : Computes (time n) (time-mod m t)
+    unfolding powers
+    time-computes = record {
+      wing = in-time (modulo m pos) powers;
+      keeps = time-keeps n t powers (entry-pow m (2 ^ (n - 1)) pos t accepted);
+      decimates = decimates-time (modulo m pos) (of the-root) n turn;
+    }
+
+    -- A number below m stands for its own residue.
+    stands-self : {a : ℕ} → a < m → Stands a (of a)
+    stands-self l = record { same = refl; below = l }
+
+    -- Every schedule leaves the sums: those in order f(rev(p)) at place p, schedule 4 of samples in reversed order f(p).
+    pub sums-mod : {e : Exponents} {w : Wing ℕ} {order : ℕ → ℕ} {f : Schedule} → Computes e w → Leaves e n order f → (A : Buffer ℕ) → ((p : ℕ) → p < 2 ^ n → A p < m) →
+        (p : ℕ) → p < 2 ^ n → f ℕ w A p ≡ fourier-mod m the-root (2 ^ n) (λ i. A (order i)) (rev n (order p))
+    sums-mod {order = order} computes leaves A small p h =
+        stands-same
+        (related n (λ s. Stands) (computes .keeps) leaves A (λ q. of (A q)) (λ q l. stands-self (small q l)) p h)
+        (rw (sums (modulo m pos) (of the-root) n turn (computes .decimates) leaves (λ q. of (A q)) p h)
+        (fourier-stands the-root (2 ^ n) (λ i. A (order i)) (rev n (order p))))
+
+    -- ---- the inverse
+
+    -- What is looked up for x^(-e) is x^(-e).
+    back-pow : 0 < n → (e : ℕ) → e < 2 ^ (n - 1) → of (back m n t e) ⊗ powers e ≡ of 1
+    unfolding back powers
+    back-pow some e l =
+        let whole : 2 ^ n ≡ 2 ^ (n - 1) + 2 ^ (n - 1) = two-halves some in
+        let round : powers (2 ^ n) ≡ of 1 = rw (whole, pow-plus, turn) (ring (modulo m pos) [] (:neg :1 :* :neg :1) :1 refl) in
+        rw (
+          lookup-pow m (2 ^ (n - 1)) pos t accepted ((2 ^ n - e) % 2 ^ n) (omega (arith, mod-lt (2 ^ n - e) (pow-pos n))),
+          pow-mod (modulo m pos) (of the-root) (2 ^ n) round (2 ^ n - e),
+          ← pow-plus (modulo m pos) (of the-root) (2 ^ n - e) e,
+          sub-add-cancel {n = 2 ^ n} {m = e} (omega arith),
+        )
+        round
+
+    module _ (some : 0 < n) (odd : m % 2 ≡ 1) where
+      halved : of ((m + 1) / 2) ⊗ of 2 ≡ of 1
+      halved =
+          let e : (m + 1) / 2 * 2 ≡ 1 + m = omega arith in
+          sym (of-times ((m + 1) / 2) 2) ∙ rw (e, of-plus, of-modulus) (plus-zero (of 1))
+
+      inverse-stands : (d : Buffer ℕ) → ((p : ℕ) → p < 2 ^ n → d p < m) → (p : ℕ) → p < 2 ^ n →
+          Stands (inverse-mod m n t d p) (inverse (modulo m pos) (λ e. of (back m n t e)) (of ((m + 1) / 2)) n (λ q. of (d q)) p)
+      unfolding inverse-mod
+      inverse-stands d small p h =
+          times-stands (((m + 1) / 2) ^ n % m) (of-mod m pos (((m + 1) / 2) ^ n) ∙ of-pow (modulo m pos) ((m + 1) / 2) n)
+          (related n (λ s. Stands) (time-keeps n (back m n t) (λ e. of (back m n t e)) (λ e l. refl)) (leaves4 n) d (λ q. of (d q)) (λ q l. stands-self (small q l)) p h)
+
+      -- Of the sums that schedules 1, 2, 3 and 5 leave, the inverse gives the samples back.
+      pub inverse-sums-mod : (A F : Buffer ℕ) → ((p : ℕ) → p < 2 ^ n → A p < m) → ((p : ℕ) → p < 2 ^ n → F p ≡ fourier-mod m the-root (2 ^ n) A (rev n p)) →
+          (p : ℕ) → p < 2 ^ n → inverse-mod m n t F p ≡ A p
+      unfolding powers
+      inverse-sums-mod A F small given p h =
+          let sum : (q : ℕ) → Stands (fourier-mod m the-root (2 ^ n) A (rev n q)) (fourier (modulo m pos) (of the-root) (2 ^ n) (λ k. of (A k)) (rev n q)) =
+          (λ q. fourier-stands the-root (2 ^ n) A (rev n q)) in
+          stands-same
+          (rw (inverse-sums (modulo m pos) (of the-root) n turn (λ e. of (back m n t e)) (back-pow some) (of ((m + 1) / 2)) halved (λ q. of (A q)) (λ q. of (F q)) (λ q l. rw (given q l) (sum q .same)) p h)
+          at (inverse-stands F (λ q l. rw (given q l) (sum q .below)) p h))
+          (stands-self (small p h))
+
+      -- And the sums of what the inverse makes of any residues are those residues.
+      pub sums-inverse-mod : (F : Buffer ℕ) → ((p : ℕ) → p < 2 ^ n → F p < m) → (p : ℕ) → p < 2 ^ n → fourier-mod m the-root (2 ^ n) (inverse-mod m n t F) (rev n p) ≡ F p
+      unfolding powers fourier
+      sums-inverse-mod F small p h =
+          stands-same
+          (rw (
+            sum-cong (modulo m pos) (2 ^ n) (λ k l. ap (λ z. z ⊗ powers (rev n p * k)) (inverse-stands F small k l .same)),
+            sums-inverse (modulo m pos) (of the-root) n turn (λ e. of (back m n t e)) (back-pow some) (of ((m + 1) / 2)) halved (λ q. of (F q)) p h,
+          )
+          at (fourier-stands the-root (2 ^ n) (inverse-mod m n t F) (rev n p)))
+          (stands-self (small p h))
