@@ -1,0 +1,23 @@
+-- The search for a length's logarithm, candidate by candidate.
+use Prim.Native.Nat.{ℕ, zero, suc, _-_, _/_, _^_, _<_}
+use mathlib.Core.Path.{_≡_, refl}
+use native.Mathlib.Nat.{two-pow-succ, not-suc-le-zero}
+use native.Mathlib.Omega.{arith}
+use lib.Dec.{eqb}
+use borrow.Author.Tests.{eq-eqb, ne-eqb}
+use Rattle.answer.specs.Lengths.{logUpTo}
+
+pub log-hit : (n N : ℕ) → 0 < n → N ≡ 2 ^ n → logUpTo n N ≡ n
+unfolding logUpTo
+log-hit zero N h e = absurd (not-suc-le-zero h)
+log-hit (suc n) N h e = rw (eq-eqb N (2 ^ suc n) e)
+
+pub log-miss : (n N : ℕ) → 0 < n → (N ≡ 2 ^ n → ⊥) → logUpTo n N ≡ logUpTo (n - 1) N
+unfolding logUpTo
+log-miss zero N h ne = absurd (not-suc-le-zero h)
+log-miss (suc n) N h ne = let e : suc n - 1 ≡ n = omega arith in rw (ne-eqb N (2 ^ suc n) ne, e)
+
+-- half a power
+pub half-pow : (n : ℕ) → 0 < n → 2 ^ n / 2 ≡ 2 ^ (n - 1)
+half-pow zero h = absurd (not-suc-le-zero h)
+half-pow (suc n) h = let e : suc n - 1 ≡ n = omega arith in rw e (omega (arith, two-pow-succ n))
