@@ -1,17 +1,18 @@
 -- The search for a length's logarithm, candidate by candidate.
 use Prim.Native.Nat.{ℕ, zero, suc, _-_, _/_, _^_, _<_}
-use mathlib.Core.Path.{_≡_, refl}
+use mathlib.Core.Path.{_≡_}
 use native.Mathlib.Nat.{two-pow-succ, not-suc-le-zero}
 use native.Mathlib.Omega.{arith}
-use lib.Dec.{eqb}
 use borrow.Author.Tests.{eq-eqb, ne-eqb}
 use Rattle.answer.specs.Lengths.{logUpTo}
 
+-- the candidate n is met
 pub log-hit : (n N : ℕ) → 0 < n → N ≡ 2 ^ n → logUpTo n N ≡ n
 unfolding logUpTo
 log-hit zero N h e = absurd (not-suc-le-zero h)
 log-hit (suc n) N h e = rw (eq-eqb N (2 ^ suc n) e)
 
+-- the candidate n is missed
 pub log-miss : (n N : ℕ) → 0 < n → (N ≡ 2 ^ n → ⊥) → logUpTo n N ≡ logUpTo (n - 1) N
 unfolding logUpTo
 log-miss zero N h ne = absurd (not-suc-le-zero h)

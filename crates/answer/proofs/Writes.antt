@@ -27,7 +27,7 @@ module _ {A : Type 0} {d : A} {l : List A} {n : ℕ} {new old : ℕ → A} where
     written-more e h here front behind = record {
       long = e;
       past = λ p a b. ⊎-elim (λ k. front p k ∙ r .past p a k) (λ k. here p a k b) (lt-or-ge p i);
-      left = λ p a b. behind p a b ∙ r .left p a (omega arith)
+      left = λ p a b. behind p a b ∙ r .left p a (omega arith);
     }
 
     -- place i is written

@@ -1,8 +1,9 @@
 -- How a call's answer is chosen: document 01's number and place, and the refusals in their order.
 use Prim.Native.Nat.{ℕ, _≤_}
-use mathlib.Core.Path.{_≡_, refl, ap}
+use mathlib.Core.Path.{_≡_, refl}
 use mathlib.Core.Bool.{Bool, true, false}
 use native.Mathlib.Omega.{arith}
+use lib.Dec.{eqb}
 use Rattle.answer.specs.declared.Answer.{Answer}
 use Rattle.answer.specs.declared.Found.{Found}
 use Rattle.answer.specs.declared.Found.the-variants.{At, Nowhere}
@@ -34,16 +35,16 @@ abbrev pub judged-at : ℕ → Found → Answer → Answer
 judged-at number (At p) next = refuse-at number p
 judged-at number Nowhere next = next
 
--- what is refused is not done
-refused : (number place : ℕ) → 1 ≤ number → refuse-at number place ≡ done → ⊥
-refused number place h e = let z : number ≡ 0 = ap (λ (a : Answer). a .number) e in omega arith
+-- what is left: new where the answer is done; "a refusal changes nothing lent"
+abbrev pub if-done {ℓ} : {A : Type ℓ} → Answer → A → A → A
+if-done answer new old = pick (eqb (answer .number) 0) new old
 
 -- done: the test holds, and what comes next is done
-pub unless-done : (b : Bool) (number : ℕ) (next : Answer) → 1 ≤ number → unless b (refuse number) next ≡ done → (b ≡ true) × (next ≡ done)
-unless-done true number next h e = (refl, e)
-unless-done false number next h e = absurd (refused number 0 h e)
+pub unless-done : (b : Bool) (refusal next : Answer) → 1 ≤ refusal .number → unless b refusal next .number ≡ 0 → (b ≡ true) × (next .number ≡ 0)
+unless-done true refusal next h e = (refl, e)
+unless-done false refusal next h e = absurd (omega arith)
 
 -- done: the search found no bad place, and what comes next is done
-pub judged-done : (number : ℕ) (f : Found) (next : Answer) → 1 ≤ number → judged-at number f next ≡ done → (f ≡ Nowhere) × (next ≡ done)
-judged-done number (At p) next h e = absurd (refused number p h e)
+pub judged-done : (number : ℕ) (f : Found) (next : Answer) → 1 ≤ number → judged-at number f next .number ≡ 0 → (f ≡ Nowhere) × (next .number ≡ 0)
+judged-done number (At p) next h e = absurd (omega arith)
 judged-done number Nowhere next h e = (refl, e)

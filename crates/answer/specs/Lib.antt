@@ -1,4 +1,4 @@
--- What every call needs.
+-- What every call needs: its answer, the search for a bad place, the permitted lengths, lists by their places.
 pub mod Choice
 pub mod Search
 pub mod Lengths

@@ -65,7 +65,7 @@ module _ {A : Type 0} {d : A} where
       let w = r .long in
       record {
         long = length-set l i x ∙ r .long;
-        here = λ p k. ⊎-elim (λ q. rw q (getD-set-same l i x d (omega arith) ∙ e)) (λ q. getD-set-other l i p x d q ∙ r .here p k ∙ other p k q) (eq-or-ne p i)
+        here = λ p k. ⊎-elim (λ q. rw q (getD-set-same l i x d (omega arith) ∙ e)) (λ q. getD-set-other l i p x d q ∙ r .here p k ∙ other p k q) (eq-or-ne p i);
       }
 
 -- functions with the same values make the same list

@@ -1,9 +1,9 @@
 -- The search for the first bad place, and what its answer says.
-use Prim.Native.Nat.{ℕ, zero, suc, _+_, _<_, _≤_, zero-le}
-use mathlib.Core.Path.{_≡_, refl, sym, _∙_}
+use Prim.Native.Nat.{ℕ, zero, suc, _+_, _<_, _≤_}
+use mathlib.Core.Path.{_≡_, refl}
 use mathlib.Core.Bool.{Bool, true, false}
-use mathlib.Core.Logic.{_⊎_, inl, inr, ⊎-elim}
-use native.Mathlib.Nat.{zero-add, eq-or-lt-of-le}
+use mathlib.Core.Logic.{⊎-elim}
+use native.Mathlib.Nat.{eq-or-lt-of-le}
 use native.Mathlib.Omega.{arith}
 use borrow.Author.Count.{below-more}
 use Rattle.answer.specs.Choice.{pick}
@@ -32,21 +32,19 @@ passed-none ok = record { each = λ q h. absurd (omega arith) }
 pub passed-more : {ok : ℕ → Bool} {i : ℕ} → Passed ok i → ok i ≡ true → Passed ok (i + 1)
 passed-more {ok} {i} r e = record { each = below-more (λ q. ok q ≡ true) i (r .each) e }
 
--- the same from any place on
+-- the meaning of the answer, from any place on
 module _ (ok : ℕ → Bool) where
   passed-from : (i k : ℕ) → ((q : ℕ) → i ≤ q → q < i + k → ok q ≡ true) → first ok i k ≡ Nowhere
   unfolding first
   passed-from i zero all = refl
-  passed-from i (suc k) all = rw (all i (omega arith) (omega arith)) (passed-from (suc i) k (λ q a b. all q (omega arith) (omega arith)))
+  passed-from i (suc k) all = rw (all i (omega arith) (omega arith)) (passed-from _ k (λ q a b. all q (omega arith) (omega arith)))
 
   failed-from : (i k p : ℕ) → i ≤ p → p < i + k → ok p ≡ false → ((q : ℕ) → i ≤ q → q < p → ok q ≡ true) → first ok i k ≡ At p
   unfolding first
   failed-from i zero p a b e all = absurd (omega arith)
-  failed-from i (suc k) p a b e all = go (failed-from (suc i) k p) (eq-or-lt-of-le a)
-    where
-      go : (suc i ≤ p → p < suc i + k → ok p ≡ false → ((q : ℕ) → suc i ≤ q → q < p → ok q ≡ true) → first ok (suc i) k ≡ At p) → (i ≡ p) ⊎ (i < p) → pick (ok i) (first ok (suc i) k) (At i) ≡ At p
-      go ih (inl h) = rw (h, e)
-      go ih (inr h) = rw (all i (omega arith) h) (ih h (omega arith) e (λ q c d. all q (omega arith) d))
+  failed-from i (suc k) p a b e all =
+      ⊎-elim (λ h. let here : ok i ≡ false = rw h e in rw here (rw h refl))
+      (λ h. rw (all i (omega arith) h) (failed-from _ k p h (omega arith) e (λ q c d. all q (omega arith) d))) (eq-or-lt-of-le a)
 
   -- what an answer says of the places i, .., i + k - 1
   abbrev Says : ℕ → ℕ → Found → Type 0
