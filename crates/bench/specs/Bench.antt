@@ -1,8 +1,8 @@
 -- Document 01's bench values marked P, in one theorem about the definitions. They are about the steps before any reordering.
-use Prim.Native.Nat.{ℕ, zero, suc}
+use Prim.Native.Nat.{ℕ}
 use mathlib.Core.Path.{_≡_, refl}
 use mathlib.Core.List.{List, [], _∷_}
-use lib.ListN.{getD}
+use Rattle.answer.specs.Lists.{at, tabulate}
 use Rattle.algebra.specs.Sum.{total}
 use Rattle.fourier.specs.Reverse.{rev}
 use Rattle.fourier.specs.Schedules.{Wing, Buffer, butterfly, shuffled, columns, shuffle, pease, step, run, halves}
@@ -10,43 +10,35 @@ use Rattle.fourier.specs.Leaves.{schedule1, schedule2, schedule3, schedule4, sc
 use Rattle.fourier.specs.Table.{root, lookup}
 use Rattle.fourier.specs.Numbers.{fourier-mod, frequency-mod, time-mod, back, inverse-mod}
 
--- The first k places of a buffer, from p on.
-places : ℕ → ℕ → Buffer ℕ → List ℕ
-places zero p d = []
-places (suc k) p d = d p ∷ places k (suc p) d
-
-abbrev table : List ℕ → ℕ → ℕ
-table l e = getD l e 0
-
 -- m = 5, table 1 2: the steps of schedules 1, 2 and 3, and of 4 and 5.
 abbrev five : Wing ℕ
-five = frequency-mod 5 (table (1 ∷ 2 ∷ []))
+five = frequency-mod 5 (at (1 ∷ 2 ∷ []))
 
 abbrev five-time : Wing ℕ
-five-time = time-mod 5 (table (1 ∷ 2 ∷ []))
+five-time = time-mod 5 (at (1 ∷ 2 ∷ []))
 
 -- Samples 1 2 3 4.
 abbrev samples : Buffer ℕ
-samples = table (1 ∷ 2 ∷ 3 ∷ 4 ∷ [])
+samples = at (1 ∷ 2 ∷ 3 ∷ 4 ∷ [])
 
 bench :
     -- m = 5, table 1 2, samples 1 2 3 4. Sums in order; what schedules 1, 2, 3 and 5 leave
-    (places 4 0 (fourier-mod 5 2 4 samples) ≡ 0 ∷ 4 ∷ 3 ∷ 2 ∷ [])
-    × (places 4 0 (schedule1 2 ℕ five samples) ≡ 0 ∷ 3 ∷ 4 ∷ 2 ∷ [])
-    × (places 4 0 (schedule2 2 ℕ five samples) ≡ 0 ∷ 3 ∷ 4 ∷ 2 ∷ [])
-    × (places 4 0 (schedule3 2 ℕ five samples) ≡ 0 ∷ 3 ∷ 4 ∷ 2 ∷ [])
-    × (places 4 0 (schedule5 2 ℕ five-time samples) ≡ 0 ∷ 3 ∷ 4 ∷ 2 ∷ [])
+    (tabulate 4 (fourier-mod 5 2 4 samples) ≡ 0 ∷ 4 ∷ 3 ∷ 2 ∷ [])
+    × (tabulate 4 (schedule1 2 ℕ five samples) ≡ 0 ∷ 3 ∷ 4 ∷ 2 ∷ [])
+    × (tabulate 4 (schedule2 2 ℕ five samples) ≡ 0 ∷ 3 ∷ 4 ∷ 2 ∷ [])
+    × (tabulate 4 (schedule3 2 ℕ five samples) ≡ 0 ∷ 3 ∷ 4 ∷ 2 ∷ [])
+    × (tabulate 4 (schedule5 2 ℕ five-time samples) ≡ 0 ∷ 3 ∷ 4 ∷ 2 ∷ [])
     -- the same after stage 0, by columns and by shuffle; Pease after its first stage
-    × (places 4 0 (step five (columns 2 0) samples) ≡ 4 ∷ 1 ∷ 3 ∷ 1 ∷ [])
-    × (places 4 0 (step five (shuffle 2 0) samples) ≡ 4 ∷ 3 ∷ 1 ∷ 1 ∷ [])
-    × (places 4 0 (step five-time (pease 2 0) samples) ≡ 4 ∷ 3 ∷ 1 ∷ 3 ∷ [])
+    × (tabulate 4 (step five (columns 2 0) samples) ≡ 4 ∷ 1 ∷ 3 ∷ 1 ∷ [])
+    × (tabulate 4 (step five (shuffle 2 0) samples) ≡ 4 ∷ 3 ∷ 1 ∷ 1 ∷ [])
+    × (tabulate 4 (step five-time (pease 2 0) samples) ≡ 4 ∷ 3 ∷ 1 ∷ 3 ∷ [])
     -- schedule 4 on 1 3 2 4
-    × (places 4 0 (schedule4 2 ℕ five-time (table (1 ∷ 3 ∷ 2 ∷ 4 ∷ []))) ≡ 0 ∷ 4 ∷ 3 ∷ 2 ∷ [])
+    × (tabulate 4 (schedule4 2 ℕ five-time (at (1 ∷ 3 ∷ 2 ∷ 4 ∷ []))) ≡ 0 ∷ 4 ∷ 3 ∷ 2 ∷ [])
     -- the inverse of 0 3 4 2
-    × (places 4 0 (inverse-mod 5 2 (table (1 ∷ 2 ∷ [])) (table (0 ∷ 3 ∷ 4 ∷ 2 ∷ []))) ≡ 1 ∷ 2 ∷ 3 ∷ 4 ∷ [])
+    × (tabulate 4 (inverse-mod 5 2 (at (1 ∷ 2 ∷ [])) (at (0 ∷ 3 ∷ 4 ∷ 2 ∷ []))) ≡ 1 ∷ 2 ∷ 3 ∷ 4 ∷ [])
     -- m = 3, table 1, samples 2 1
-    × (places 2 0 (schedule1 1 ℕ (frequency-mod 3 (table (1 ∷ []))) (table (2 ∷ 1 ∷ []))) ≡ 0 ∷ 1 ∷ [])
+    × (tabulate 2 (schedule1 1 ℕ (frequency-mod 3 (at (1 ∷ []))) (at (2 ∷ 1 ∷ []))) ≡ 0 ∷ 1 ∷ [])
     -- reversal for N = 8
-    × (places 8 0 (rev 3) ≡ 0 ∷ 4 ∷ 2 ∷ 6 ∷ 1 ∷ 5 ∷ 3 ∷ 7 ∷ [])
-unfolding places total rev butterfly shuffled run halves fourier-mod lookup back inverse-mod
+    × (tabulate 8 (rev 3) ≡ 0 ∷ 4 ∷ 2 ∷ 6 ∷ 1 ∷ 5 ∷ 3 ∷ 7 ∷ [])
+unfolding tabulate total rev butterfly shuffled run halves fourier-mod lookup back inverse-mod
 bench = (refl, refl, refl, refl, refl, refl, refl, refl, refl, refl, refl, refl)

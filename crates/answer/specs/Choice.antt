@@ -1,0 +1,45 @@
+-- How a call's answer is chosen: document 01's number and place, and the refusals in their order.
+use Prim.Native.Nat.{ℕ, _≤_}
+use mathlib.Core.Path.{_≡_, refl}
+use mathlib.Core.Bool.{Bool, true, false, cond}
+use native.Mathlib.Omega.{arith}
+use lib.Dec.{eqb}
+use Rattle.answer.specs.declared.Answer.{Answer}
+use Rattle.answer.specs.declared.Found.{Found}
+use Rattle.answer.specs.declared.Found.the-variants.{At, Nowhere}
+
+-- A number with the place that is named.
+abbrev pub refuse-at : ℕ → ℕ → Answer
+refuse-at number place = record { number = number; place = place }
+
+-- A number; "the place is 0 except where named".
+abbrev pub refuse : ℕ → Answer
+refuse number = refuse-at number 0
+
+-- 0: done.
+abbrev pub done : Answer
+done = refuse 0
+
+-- A refusal where the test fails, else what comes next.
+abbrev pub unless : Bool → Answer → Answer → Answer
+unless true refusal next = next
+unless false refusal next = refusal
+
+-- Where a search found a bad place: that number at that place; else what comes next.
+abbrev pub judged-at : ℕ → Found → Answer → Answer
+judged-at number (At p) next = refuse-at number p
+judged-at number Nowhere next = next
+
+-- What is left: new where the answer is done; "a refusal changes nothing lent".
+abbrev pub if-done {ℓ} : {A : Type ℓ} → Answer → A → A → A
+if-done answer new old = cond (eqb (answer .number) 0) new old
+
+-- Done: the test holds, and what comes next is done.
+pub unless-done : (b : Bool) (refusal next : Answer) → 1 ≤ refusal .number → unless b refusal next .number ≡ 0 → (b ≡ true) × (next .number ≡ 0)
+unless-done true refusal next h e = (refl, e)
+unless-done false refusal next h e = absurd (omega arith)
+
+-- Done: the search found no bad place, and what comes next is done.
+pub judged-done : (number : ℕ) (f : Found) (next : Answer) → 1 ≤ number → judged-at number f next .number ≡ 0 → (f ≡ Nowhere) × (next .number ≡ 0)
+judged-done number (At p) next h e = absurd (omega arith)
+judged-done number Nowhere next h e = (refl, e)
