@@ -55,10 +55,10 @@ shuffled-embeds e n f same = record {
 }
 
 pub shuffle-embeds : (n : ℕ) → Embeds frequency n straight by-rows (shuffle n)
-shuffle-embeds n = shuffled-embeds frequency n (λ s k. k - k % 2 ^ s) (λ s k. omega (arith, div-add-mod' k (2 ^ s)))
+shuffle-embeds n = shuffled-embeds frequency n _ (λ s k. omega (arith, div-add-mod' k (2 ^ s)))
 
 pub pease-embeds : (n : ℕ) → Embeds (time n) n straight by-rows (pease n)
-pease-embeds n = shuffled-embeds (time n) n (λ t k. 2 ^ (n - suc t) * rev t (k % 2 ^ t)) (λ s k. refl)
+pease-embeds n = shuffled-embeds (time n) n _ (λ s k. refl)
 
 pub thong-embeds : (n : ℕ) → Embeds (time n) n (rev n) (by-reversal n) (thong n)
 unfolding rev

@@ -1,7 +1,7 @@
 -- Schedule 3: its sentence, half by half, and that it leaves at every place what schedule 1 leaves.
 use Prim.Native.Nat.{ℕ, zero, suc, _+_, _-_, _*_, _/_, _%_, _^_, _<_}
 use mathlib.Core.Path.{_≡_, refl, _∙_, ap}
-use native.Mathlib.Nat.{zero-add, zero-mul, one-mul, pow-suc, two-pow-succ, add-mod-left, add-div-left, mod-eq-of-lt, div-eq-of-lt, mul-add-mod-self-right, mul-add-div-right, div-add-mod'}
+use native.Mathlib.Nat.{zero-add, zero-mul, one-mul, mul-one, mul-add, mul-assoc, pow-suc, two-pow-succ, add-mod-left, add-div-left, mod-eq-of-lt, div-eq-of-lt, mul-add-mod-self-right, mul-add-div-right, div-add-mod'}
 use native.Mathlib.Omega.{arith}
 use lib.Pow.{pow-pos}
 use Rattle.fourier.specs.Schedules.{Wing, Buffer, Source, from, Stage, butterfly, columns, step, run, halves}
@@ -62,3 +62,17 @@ module _ {C : Type 0} (w : Wing C) where
         let e : (q : ℕ) → 0 * 2 ^ n + q ≡ q = omega arith in
         let whole : Part 0 n A A = record { at = λ q. rw (e q) } in
         rw e at (halves-part n 0 (omega arith) whole .at p)
+
+-- ---- "the root of a half is x squared": at the stride c the schedule is the whole one with the root x^c
+
+abbrev pub strided : {C : Type 0} → ℕ → Wing C → Wing C
+strided c w x e = w x (c * e)
+
+module _ {C : Type 0} (w : Wing C) (c : ℕ) where
+  strides : (t m : ℕ) (d : Buffer C) (p : ℕ) → halves w m (c * t) d p ≡ halves (strided c w) m t d p
+  unfolding halves butterfly
+  strides t zero d p = refl
+  strides t (suc m) d p = simp (← mul-add, mul-assoc) (strides (t + t) m _ _)
+
+  pub halves-strided : (m : ℕ) (d : Buffer C) (p : ℕ) → halves w m c d p ≡ halves (strided c w) m 1 d p
+  halves-strided m d p = rw mul-one at (strides 1 m d p)

@@ -150,13 +150,9 @@ module _ (m : ℕ) (pos : 0 < m) where
     back-pow some e l =
         let whole : 2 ^ n ≡ 2 ^ (n - 1) + 2 ^ (n - 1) = two-halves some in
         let round : powers (2 ^ n) ≡ of 1 = rw (whole, pow-plus, turn) (ring (modulo m pos) [] (:neg :1 :* :neg :1) :1 refl) in
-        rw (
-          lookup-pow m (2 ^ (n - 1)) pos t accepted ((2 ^ n - e) % 2 ^ n) (omega (arith, mod-lt (2 ^ n - e) (pow-pos n))),
-          pow-mod (modulo m pos) (of the-root) (2 ^ n) round (2 ^ n - e),
-          ← pow-plus (modulo m pos) (of the-root) (2 ^ n - e) e,
-          sub-add-cancel {n = 2 ^ n} {m = e} (omega arith),
-        )
-        round
+        ap (λ z. z ⊗ powers e)
+        (lookup-pow m (2 ^ (n - 1)) pos t accepted _ (omega (arith, mod-lt (2 ^ n - e) (pow-pos n))) ∙ pow-mod (modulo m pos) (of the-root) (2 ^ n) round (2 ^ n - e))
+        ∙ sym (pow-plus (modulo m pos) (of the-root) (2 ^ n - e) e) ∙ rw (sub-add-cancel {n = 2 ^ n} {m = e} (omega arith)) round
 
     module _ (some : 0 < n) (odd : m % 2 ≡ 1) where
       halved : of ((m + 1) / 2) ⊗ of 2 ≡ of 1

@@ -27,6 +27,10 @@ pub record Receive (σ : Stage) (p q e a b : ℕ) : Type 0 where
   pub sum : σ p ≡ from 0 e a b
   pub difference : σ q ≡ from 1 e a b
 
+-- Places k and k + N/2 give places 2k and 2k + 1, for k below N/2, at the exponent e k.
+abbrev pub Shuffles : ℕ → (ℕ → ℕ) → Stage → Type 0
+Shuffles n e σ = (k : ℕ) → k < 2 ^ (n - 1) → Receive σ (2 * k) (2 * k + 1) (e k) k (k + 2 ^ (n - 1))
+
 -- Schedule 1: "Stage s works on N/2^s rows (call it r) and c = 2^s columns, r' = r/2. Places rj + i and rj + i + r' with j < c,
 -- i < r' receive the sum, and x^(c i) times the difference."
 abbrev pub ByColumns : ℕ → ℕ → Stage → Type 0
@@ -38,7 +42,7 @@ ByColumns n s σ =
 
 -- Schedule 2: "Places k and k + N/2 give places 2k (sum) and 2k + 1 (x^e times the difference), for k below N/2, e = k - (k mod 2^s)."
 abbrev pub ByShuffle : ℕ → ℕ → Stage → Type 0
-ByShuffle n s σ = (k : ℕ) → k < 2 ^ (n - 1) → Receive σ (2 * k) (2 * k + 1) (k - k % 2 ^ s) k (k + 2 ^ (n - 1))
+ByShuffle n s = Shuffles n (λ k. k - k % 2 ^ s)
 
 -- Schedule 4, with t + 1 for the document's t: "Stage t from 1 to n pairs l and l + 2^(t-1), where bit t - 1 of l is 0. The second is
 -- first multiplied by x^e, e = (N/2^t)(l mod 2^(t-1)); then sum and difference stay at the two places."
@@ -48,7 +52,7 @@ ByThong n t σ = (l : ℕ) → l < 2 ^ n → l / 2 ^ t % 2 ≡ 0 → Receive σ 
 -- Schedule 5, likewise: "Stage t from 1 to n takes l and l + N/2, multiplies the second by x^e, and puts sum and difference at 2l and
 -- 2l + 1. e is N/2^t times the reversal of the low t - 1 bits of l."
 abbrev pub ByPease : ℕ → ℕ → Stage → Type 0
-ByPease n t σ = (l : ℕ) → l < 2 ^ (n - 1) → Receive σ (2 * l) (2 * l + 1) (2 ^ (n - suc t) * rev t (l % 2 ^ t)) l (l + 2 ^ (n - 1))
+ByPease n t = Shuffles n (λ l. 2 ^ (n - suc t) * rev t (l % 2 ^ t))
 
 -- ---- the pairs of a stage cover each place once
 
@@ -92,27 +96,27 @@ shuffled-pair half e k x hx =
     let pair : (2 * k + x) / 2 ≡ k = omega arith in
     rw (bit, pair)
 
-shuffled-receive : (half : ℕ) (e : ℕ → ℕ) (k : ℕ) → Receive (shuffled half e) (2 * k) (2 * k + 1) (e k) k (k + half)
-shuffled-receive half e k =
-    record { sum = rw add-zero at (shuffled-pair half e k 0 (omega arith)); difference = shuffled-pair half e k 1 (omega arith) }
+shuffled-says : (n : ℕ) (e : ℕ → ℕ) → Shuffles n e (shuffled (2 ^ (n - 1)) e)
+shuffled-says n e k h = record { sum = rw add-zero at (shuffled-pair (2 ^ (n - 1)) e k 0 (omega arith)); difference = shuffled-pair (2 ^ (n - 1)) e k 1 (omega arith) }
 
 pub columns-says : (n s : ℕ) → s < n → ByColumns n s (columns n s)
 columns-says n s l j i hj hi =
     let place : 2 ^ (n - s) * j + i ≡ j * (2 ^ (n - suc s) + 2 ^ (n - suc s)) + i = rw (rows l) (omega arith) in
-    rw place (butterfly-receive (2 ^ s) (2 ^ (n - suc s)) j i hi)
+    rw place (butterfly-receive _ _ j i hi)
 
 pub shuffle-says : (n s : ℕ) → ByShuffle n s (shuffle n s)
-shuffle-says n s k h = shuffled-receive (2 ^ (n - 1)) (λ k. k - k % 2 ^ s) k
+shuffle-says n s = shuffled-says n _
 
 pub thong-says : (n t : ℕ) → ByThong n t (thong n t)
 thong-says n t l h bit =
-    let place : l ≡ l / 2 ^ t / 2 * (2 ^ t + 2 ^ t) + l % 2 ^ t =
-    omega (arith, pairs-cover (2 ^ t) l, ap (λ (z : ℕ). z * 2 ^ t) bit) in
-    let both = butterfly-receive (2 ^ (n - suc t)) (2 ^ t) (l / 2 ^ t / 2) (l % 2 ^ t) (mod-lt l (pow-pos t)) in
+    let q = l / 2 ^ t / 2 * (2 ^ t + 2 ^ t) + l % 2 ^ t in
+    let place : l ≡ q = omega (arith, pairs-cover (2 ^ t) l, ap (λ (z : ℕ). z * 2 ^ t) bit) in
+    let both : Receive (thong n t) q (q + 2 ^ t) (2 ^ (n - suc t) * (l % 2 ^ t)) q (q + 2 ^ t) =
+    butterfly-receive _ _ (l / 2 ^ t / 2) (l % 2 ^ t) (mod-lt l (pow-pos t)) in
     rw (← place) at both
 
 pub pease-says : (n t : ℕ) → ByPease n t (pease n t)
-pease-says n t l h = shuffled-receive (2 ^ (n - 1)) (λ k. 2 ^ (n - suc t) * rev t (k % 2 ^ t)) l
+pease-says n t = shuffled-says n _
 
 -- ---- and only they are
 
@@ -149,10 +153,13 @@ columns-only n s l σ says p hp =
     let row : p % h < h = mod-lt p (pow-pos (n - suc s)) in
     alike (says j (p % h) column row) (columns-says n s l j (p % h) column row) p (rw place (in-butterfly h p))
 
-pub shuffle-only : (n s : ℕ) → s < n → (σ : Stage) → ByShuffle n s σ → (p : ℕ) → p < 2 ^ n → σ p ≡ shuffle n s p
-shuffle-only n s l σ says p hp =
+shuffled-only : (n s : ℕ) → s < n → (e : ℕ → ℕ) (σ : Stage) → Shuffles n e σ → (p : ℕ) → p < 2 ^ n → σ p ≡ shuffled (2 ^ (n - 1)) e p
+shuffled-only n s l e σ says p hp =
     let k : p / 2 < 2 ^ (n - 1) = omega (arith, two-halves l) in
-    alike (says (p / 2) k) (shuffle-says n s (p / 2) k) p (in-shuffle p)
+    alike (says (p / 2) k) (shuffled-says n e (p / 2) k) p (in-shuffle p)
+
+pub shuffle-only : (n s : ℕ) → s < n → (σ : Stage) → ByShuffle n s σ → (p : ℕ) → p < 2 ^ n → σ p ≡ shuffle n s p
+shuffle-only n s l = shuffled-only n s l _
 
 pub thong-only : (n t : ℕ) → t < n → (σ : Stage) → ByThong n t σ → (p : ℕ) → p < 2 ^ n → σ p ≡ thong n t p
 thong-only n t l σ says p hp =
@@ -165,6 +172,4 @@ thong-only n t l σ says p hp =
     alike (says (j * (h + h) + p % h) below bit) (thong-says n t (j * (h + h) + p % h) below bit) p (in-butterfly h p)
 
 pub pease-only : (n t : ℕ) → t < n → (σ : Stage) → ByPease n t σ → (p : ℕ) → p < 2 ^ n → σ p ≡ pease n t p
-pease-only n t l σ says p hp =
-    let k : p / 2 < 2 ^ (n - 1) = omega (arith, two-halves l) in
-    alike (says (p / 2) k) (pease-says n t (p / 2) k) p (in-shuffle p)
+pease-only n t l = shuffled-only n t l _

@@ -86,10 +86,10 @@ module _ (m h : ℕ) (pos : 0 < m) (t : ℕ → ℕ) (accepted : Accepted m h t)
       by (yes low) = rw (lt-ltb e h low) (entry-pow e low)
       by (no high) =
           let k : e - h < h = omega arith in
-          let whole : pow (modulo m pos) (of (root m h t)) e ≡ neg (of 1) ⊗ of (t (e - h)) =
-          (let z : e ≡ h + (e - h) = omega arith in ap (pow (modulo m pos) (of (root m h t))) z ∙ rw (pow-plus, root-pow, ← entry-pow (e - h) k)) in
-          rw (le-ltb e h (omega arith), of-mod, of-minus m pos (t (e - h)) (le-of-lt (entry-below (e - h) k)), whole)
-          (sym (neg-times (modulo m pos) (of 1) (of (t (e - h))) ∙ ap neg (one-times (modulo m pos) (of (t (e - h))))))
+          let whole : e ≡ h + (e - h) = omega arith in
+          rw (le-ltb e h (omega arith))
+          (of-mod m pos _ ∙ of-minus m pos (t (e - h)) (le-of-lt (entry-below (e - h) k)) ∙ sym (ap neg (one-times (modulo m pos) (of (t (e - h)))))
+          ∙ sym (neg-times (modulo m pos) (of 1) (of (t (e - h)))) ∙ rw (entry-pow (e - h) k, ← root-pow, ← pow-plus (modulo m pos) (of (root m h t)) h (e - h), ← whole))
 
 -- In numbers.
 pub root-power : (m h : ℕ) → 0 < m → (t : ℕ → ℕ) → Accepted m h t → root m h t ^ h % m ≡ m - 1
