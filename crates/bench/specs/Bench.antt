@@ -12,10 +12,10 @@ use Rattle.fourier.specs.Numbers.{fourier-mod, frequency-mod, time-mod, back, i
 
 -- m = 5, table 1 2: the steps of schedules 1, 2 and 3, and of 4 and 5.
 abbrev five : Wing ℕ
-five = frequency-mod 5 (at (1 ∷ 2 ∷ []))
+five = frequency-mod 5 (lookup 5 2 (at (1 ∷ 2 ∷ [])))
 
 abbrev five-time : Wing ℕ
-five-time = time-mod 5 (at (1 ∷ 2 ∷ []))
+five-time = time-mod 5 (lookup 5 2 (at (1 ∷ 2 ∷ [])))
 
 -- Samples 1 2 3 4.
 abbrev samples : Buffer ℕ
@@ -37,7 +37,7 @@ bench :
     -- the inverse of 0 3 4 2
     × (tabulate 4 (inverse-mod 5 2 (at (1 ∷ 2 ∷ [])) (at (0 ∷ 3 ∷ 4 ∷ 2 ∷ []))) ≡ 1 ∷ 2 ∷ 3 ∷ 4 ∷ [])
     -- m = 3, table 1, samples 2 1
-    × (tabulate 2 (schedule1 1 ℕ (frequency-mod 3 (at (1 ∷ []))) (at (2 ∷ 1 ∷ []))) ≡ 0 ∷ 1 ∷ [])
+    × (tabulate 2 (schedule1 1 ℕ (frequency-mod 3 (lookup 3 1 (at (1 ∷ [])))) (at (2 ∷ 1 ∷ []))) ≡ 0 ∷ 1 ∷ [])
     -- reversal for N = 8
     × (tabulate 8 (rev 3) ≡ 0 ∷ 4 ∷ 2 ∷ 6 ∷ 1 ∷ 5 ∷ 3 ∷ 7 ∷ [])
 unfolding tabulate total rev butterfly shuffled run halves fourier-mod lookup back inverse-mod

@@ -16,7 +16,7 @@ use Rattle.fourier.specs.Array.{Exponents, frequency, time}
 use Rattle.fourier.specs.Leaves.{Schedule, Leaves, Keeps, related, leaves4}
 use Rattle.fourier.specs.Fourier.{fourier, in-frequency, in-time, Decimates, decimates-frequency, decimates-time, sums}
 use Rattle.fourier.specs.Inverse.{inverse, inverse-sums, sums-inverse}
-use Rattle.fourier.specs.Table.{root, Accepted, lookup, entry-pow, root-pow, lookup-pow}
+use Rattle.fourier.specs.Table.{root, Accepted, lookup, root-pow, lookup-pow}
 
 -- ---- definitions
 
@@ -34,7 +34,7 @@ minus-mod m a b = (a + (m - b)) % m
 abbrev pub times-mod : ℕ → ℕ → ℕ → ℕ
 times-mod m a b = a * b % m
 
--- The step of schedules 1, 2 and 3: the sum, and x^e times the difference; t e is x^e.
+-- The step of schedules 1, 2 and 3: the sum, and x^e times the difference; t e is the residue x^e.
 abbrev pub frequency-mod : ℕ → (ℕ → ℕ) → Wing ℕ
 frequency-mod m t zero e a b = plus-mod m a b
 frequency-mod m t (suc x) e a b = times-mod m (t e) (minus-mod m a b)
@@ -107,25 +107,29 @@ module _ (m : ℕ) (pos : 0 < m) where
     powers : ℕ → Mod m
     powers = pow (modulo m pos) (of the-root)
 
+    looked-up : (e : ℕ) → e < 2 ^ (n - 1) → of (lookup m (2 ^ (n - 1)) t e) ≡ powers e
+    unfolding powers
+    looked-up e l = lookup-pow m (2 ^ (n - 1)) pos t accepted e (omega arith)
+
     -- A step on numbers that does what some step of a decimation does on residues.
     pub record Computes (e : Exponents) (w : Wing ℕ) : Type 0 where
       pub wing : Wing (Mod m)
       pub keeps : Keeps n (λ s. Stands) w wing
       pub decimates : Decimates (modulo m pos) (of the-root) n turn e wing
 
-    pub frequency-computes : Computes frequency (frequency-mod m t)
+    pub frequency-computes : Computes frequency (frequency-mod m (lookup m (2 ^ (n - 1)) t))
     unfolding powers
     frequency-computes = record {
       wing = in-frequency (modulo m pos) powers;
-      keeps = frequency-keeps n t powers (entry-pow m (2 ^ (n - 1)) pos t accepted);
+      keeps = frequency-keeps n (lookup m (2 ^ (n - 1)) t) powers looked-up;
       decimates = decimates-frequency (modulo m pos) (of the-root) n turn;
     }
 
-    pub time-computes : Computes (time n) (time-mod m t)
+    pub time-computes : Computes (time n) (time-mod m (lookup m (2 ^ (n - 1)) t))
     unfolding powers
     time-computes = record {
       wing = in-time (modulo m pos) powers;
-      keeps = time-keeps n t powers (entry-pow m (2 ^ (n - 1)) pos t accepted);
+      keeps = time-keeps n (lookup m (2 ^ (n - 1)) t) powers looked-up;
       decimates = decimates-time (modulo m pos) (of the-root) n turn;
     }
 
