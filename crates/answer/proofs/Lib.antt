@@ -1,3 +1,5 @@
 -- Laws that serve proofs of code.
 pub mod Powers
 pub mod Writes
+pub mod Parts
+pub mod Pairs

@@ -5,6 +5,7 @@ use native.Mathlib.Nat.{zero-add, zero-mul, one-mul, mul-one, mul-add, mul-assoc
 use native.Mathlib.Omega.{arith}
 use lib.Pow.{pow-pos}
 use Rattle.fourier.specs.Schedules.{Wing, Buffer, Source, from, Stage, butterfly, columns, step, run, halves}
+use Rattle.fourier.specs.Sentences.{butterfly-shift}
 
 -- ---- "The first stage of schedule 1, then the same on each half of the buffer, .. its exponents count double in the lent table."
 
@@ -25,19 +26,8 @@ pub record Part {C : Type 0} (k m : ℕ) (d e : Buffer C) : Type 0 where
 
 module _ {C : Type 0} (w : Wing C) where
   butterfly-part : {k m : ℕ} {d e : Buffer C} (stride : ℕ) → Part k (suc m) d e → Part k (suc m) (step w (butterfly stride (2 ^ m)) d) (step w (butterfly stride (2 ^ m)) e)
-  unfolding butterfly
   butterfly-part {k} {m} stride f = record {
-    at = λ p.
-        let h = 2 ^ m in
-        let i = p % h in
-        let j = p / h in
-        let q = j / 2 * (h + h) + i in
-        let twice : k * (h + h) + p ≡ (k + k) * h + p = omega arith in
-        let bit : (k + k + j) % 2 ≡ j % 2 = omega arith in
-        let half : (k + k + j) / 2 ≡ k + j / 2 = omega arith in
-        let first : k * (h + h) + q ≡ (k + j / 2) * (h + h) + i = omega arith in
-        let second : k * (h + h) + (q + h) ≡ (k + j / 2) * (h + h) + i + h = omega arith in
-        rw (f .at q, f .at (q + h), two-pow-succ m, twice, mul-add-mod-self-right, mul-add-div-right (pow-pos m), bit, half, first, second);
+    at = λ p. rw (two-pow-succ m, butterfly-shift stride (2 ^ m) k p (pow-pos m), ← two-pow-succ m, f .at (butterfly stride (2 ^ m) p .first), f .at (butterfly stride (2 ^ m) p .second));
   }
 
   module _ (n : ℕ) (A : Buffer C) where

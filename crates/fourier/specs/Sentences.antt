@@ -2,7 +2,7 @@
 use Prim.Native.Nat.{ℕ, zero, suc, _+_, _-_, _*_, _/_, _%_, _^_, _<_}
 use mathlib.Core.Path.{_≡_, refl, sym, ap, _∙_}
 use mathlib.Core.Logic.{_⊎_, inl, inr}
-use native.Mathlib.Nat.{add-zero, zero-mul, zero-add, one-mul, two-pow-succ, pow-suc, add-mod-left, add-div-left, mod-eq-of-lt, div-eq-of-lt, mod-lt, mul-pos, div-add-mod', div-div-eq-div-mul, div-lt-iff-lt-mul, sub-zero}
+use native.Mathlib.Nat.{add-zero, mul-add-mod-self-right, mul-add-div-right, zero-mul, zero-add, one-mul, two-pow-succ, pow-suc, add-mod-left, add-div-left, mod-eq-of-lt, div-eq-of-lt, mod-lt, mul-pos, div-add-mod', div-div-eq-div-mul, div-lt-iff-lt-mul, sub-zero}
 use native.Mathlib.Omega.{arith}
 use lib.Arith.{digits-div, digits-mod}
 use lib.Pow.{pow-pos, pow-add}
@@ -69,6 +69,20 @@ butterfly-pair stride h j i x hi hx =
     let bit : (j + j + x) % 2 ≡ x = omega arith in
     let half : (j + j + x) / 2 ≡ j = omega arith in
     rw (place, digits-div, digits-mod, bit, half)
+
+-- Every block is paired alike.
+pub butterfly-shift : (stride h k p : ℕ) → 0 < h →
+    butterfly stride h (k * (h + h) + p) ≡ (let f = butterfly stride h p in from (f .part) (f .exponent) (k * (h + h) + f .first) (k * (h + h) + f .second))
+unfolding butterfly
+butterfly-shift stride h k p pos =
+    let i = p % h in
+    let j = p / h in
+    let twice : k * (h + h) + p ≡ (k + k) * h + p = omega arith in
+    let bit : (k + k + j) % 2 ≡ j % 2 = omega arith in
+    let half : (k + k + j) / 2 ≡ k + j / 2 = omega arith in
+    let first : (k + j / 2) * (h + h) + i ≡ k * (h + h) + (j / 2 * (h + h) + i) = omega arith in
+    let second : k * (h + h) + (j / 2 * (h + h) + i) + h ≡ k * (h + h) + (j / 2 * (h + h) + i + h) = omega arith in
+    rw (twice, mul-add-mod-self-right, mul-add-div-right pos, bit, half, first, second)
 
 pub pairs-once : (h j i x j′ i′ x′ : ℕ) → i < h → i′ < h → x < 2 → x′ < 2 → j * (h + h) + x * h + i ≡ j′ * (h + h) + x′ * h + i′ → (j ≡ j′) × (x ≡ x′) × (i ≡ i′)
 pairs-once h j i x j′ i′ x′ hi hi′ hx hx′ e =
