@@ -36,9 +36,9 @@ module _ {A : Type 0} {d : A} {l : List A} {h : ℕ} {new old : ℕ → A} where
         let e : length l ≡ h + h = r .long in
         let e₁ : length (set l i x) ≡ h + h = length-set l i x ∙ e in
         let other : (p : ℕ) → (p ≡ i → ⊥) → (p ≡ i + h → ⊥) → getD (set (set l i x) (i + h) y) p d ≡ getD l p d =
-            (λ p a b. getD-set-other (set l i x) (i + h) p y d b ∙ getD-set-other l i p x d a) in
+        (λ p a b. getD-set-other (set l i x) (i + h) p y d b ∙ getD-set-other l i p x d a) in
         let same : (k : ℕ) (f : ℕ → A) → k < h → (k ≡ i → ⊥) → Both d l h k f → Both d (set (set l i x) (i + h) y) h k f =
-            (λ k f a n b. record { low = other k n (λ q. omega arith) ∙ b .low; high = other (k + h) (λ q. omega arith) (λ q. n (omega arith)) ∙ b .high }) in
+        (λ k f a n b. record { low = other k n (λ q. omega arith) ∙ b .low; high = other (k + h) (λ q. omega arith) (λ q. n (omega arith)) ∙ b .high }) in
         record {
           long = length-set (set l i x) (i + h) y ∙ e₁;
           past = λ k a b. ⊎-elim

@@ -7,8 +7,8 @@ use Rattle.algebra.specs.Sum.{total}
 use Rattle.fourier.specs.Reverse.{rev}
 use Rattle.fourier.specs.Schedules.{Wing, Buffer, butterfly, shuffled, columns, shuffle, pease, step, run, halves}
 use Rattle.fourier.specs.Leaves.{schedule1, schedule2, schedule3, schedule4, schedule5}
-use Rattle.fourier.specs.Table.{root, lookup}
-use Rattle.fourier.specs.Numbers.{fourier-mod, frequency-mod, time-mod, back, inverse-mod}
+use Rattle.fourier.specs.Table.{lookup, back}
+use Rattle.fourier.specs.Numbers.{fourier-mod, frequency-mod, time-mod, inverse-mod}
 
 -- m = 5, table 1 2: the steps of schedules 1, 2 and 3, and of 4 and 5.
 abbrev five : Wing ℕ

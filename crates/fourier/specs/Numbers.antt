@@ -11,12 +11,11 @@ use Rattle.algebra.specs.Sum.{pow, sum, total, pow-plus, pow-mod, of-pow, of-to
 use Rattle.algebra.specs.Modulo.{Mod, modulo, of-number, of-mod, of-minus, of-modulus, of-injective}
 use Rattle.fourier.specs.Reverse.{rev}
 use Rattle.fourier.specs.Schedules.{Wing, Buffer, thong, run}
-use Rattle.fourier.specs.Sentences.{two-halves}
 use Rattle.fourier.specs.Array.{Exponents, frequency, time}
 use Rattle.fourier.specs.Leaves.{Schedule, Leaves, Keeps, related, leaves4}
 use Rattle.fourier.specs.Fourier.{fourier, in-frequency, in-time, Decimates, decimates-frequency, decimates-time, sums}
 use Rattle.fourier.specs.Inverse.{inverse, inverse-sums, sums-inverse}
-use Rattle.fourier.specs.Table.{root, Accepted, lookup, root-pow, lookup-pow}
+use Rattle.fourier.specs.Table.{root, Accepted, lookup, back, root-pow, lookup-pow}
 
 -- ---- definitions
 
@@ -44,13 +43,9 @@ abbrev pub time-mod : ℕ → (ℕ → ℕ) → Wing ℕ
 time-mod m t zero e a b = plus-mod m a (times-mod m (t e) b)
 time-mod m t (suc x) e a b = minus-mod m a (times-mod m (t e) b)
 
--- x^(-e), looked up at the exponent (N - e) mod N, for N = 2^n.
-unfoldable pub back : ℕ → ℕ → (ℕ → ℕ) → ℕ → ℕ
-back m n t e = lookup m (2 ^ (n - 1)) t ((2 ^ n - e) % 2 ^ n)
-
 -- The inverse: T1 with x^(-e), and "the factor 1/N is ((m + 1)/2)^n modulo m".
 unfoldable pub inverse-mod : ℕ → ℕ → (ℕ → ℕ) → Buffer ℕ → Buffer ℕ
-inverse-mod m n t d p = times-mod m (((m + 1) / 2) ^ n % m) (run (time-mod m (back m n t)) (thong n) n d p)
+inverse-mod m n t d p = times-mod m (((m + 1) / 2) ^ n % m) (run (time-mod m (back m (2 ^ (n - 1)) t)) (thong n) n d p)
 
 -- ---- numbers that stand for residues
 
@@ -149,27 +144,27 @@ module _ (m : ℕ) (pos : 0 < m) where
     -- ---- the inverse
 
     -- What is looked up for x^(-e) is x^(-e).
-    back-pow : 0 < n → (e : ℕ) → e < 2 ^ (n - 1) → of (back m n t e) ⊗ powers e ≡ of 1
+    back-pow : (e : ℕ) → e < 2 ^ (n - 1) → of (back m (2 ^ (n - 1)) t e) ⊗ powers e ≡ of 1
     unfolding back powers
-    back-pow some e l =
-        let whole : 2 ^ n ≡ 2 ^ (n - 1) + 2 ^ (n - 1) = two-halves some in
-        let round : powers (2 ^ n) ≡ of 1 = rw (whole, pow-plus, turn) (ring (modulo m pos) [] (:neg :1 :* :neg :1) :1 refl) in
+    back-pow e l =
+        let h = 2 ^ (n - 1) in
+        let round : powers (h + h) ≡ of 1 = rw (pow-plus, turn) (ring (modulo m pos) [] (:neg :1 :* :neg :1) :1 refl) in
         ap (λ z. z ⊗ powers e)
-        (lookup-pow m (2 ^ (n - 1)) pos t accepted _ (omega (arith, mod-lt (2 ^ n - e) (pow-pos n))) ∙ pow-mod (modulo m pos) (of the-root) (2 ^ n) round (2 ^ n - e))
-        ∙ sym (pow-plus (modulo m pos) (of the-root) (2 ^ n - e) e) ∙ rw (sub-add-cancel {n = 2 ^ n} {m = e} (omega arith)) round
+        (lookup-pow m h pos t accepted _ (mod-lt (h + h - e) (omega arith)) ∙ pow-mod (modulo m pos) (of the-root) (h + h) round (h + h - e))
+        ∙ sym (pow-plus (modulo m pos) (of the-root) (h + h - e) e) ∙ rw (sub-add-cancel {n = h + h} {m = e} (omega arith)) round
 
-    module _ (some : 0 < n) (odd : m % 2 ≡ 1) where
+    module _ (odd : m % 2 ≡ 1) where
       halved : of ((m + 1) / 2) ⊗ of 2 ≡ of 1
       halved =
           let e : (m + 1) / 2 * 2 ≡ 1 + m = omega arith in
           sym (of-times ((m + 1) / 2) 2) ∙ rw (e, of-plus, of-modulus) (plus-zero (of 1))
 
       inverse-stands : (d : Buffer ℕ) → ((p : ℕ) → p < 2 ^ n → d p < m) → (p : ℕ) → p < 2 ^ n →
-          Stands (inverse-mod m n t d p) (inverse (modulo m pos) (λ e. of (back m n t e)) (of ((m + 1) / 2)) n (λ q. of (d q)) p)
+          Stands (inverse-mod m n t d p) (inverse (modulo m pos) (λ e. of (back m (2 ^ (n - 1)) t e)) (of ((m + 1) / 2)) n (λ q. of (d q)) p)
       unfolding inverse-mod
       inverse-stands d small p h =
           times-stands (((m + 1) / 2) ^ n % m) (of-mod m pos (((m + 1) / 2) ^ n) ∙ of-pow (modulo m pos) ((m + 1) / 2) n)
-          (related n (λ s. Stands) (time-keeps n (back m n t) (λ e. of (back m n t e)) (λ e l. refl)) (leaves4 n) d (λ q. of (d q)) (λ q l. stands-self (small q l)) p h)
+          (related n (λ s. Stands) (time-keeps n (back m (2 ^ (n - 1)) t) (λ e. of (back m (2 ^ (n - 1)) t e)) (λ e l. refl)) (leaves4 n) d (λ q. of (d q)) (λ q l. stands-self (small q l)) p h)
 
       -- Of the sums that schedules 1, 2, 3 and 5 leave, the inverse gives the samples back.
       pub inverse-sums-mod : (A F : Buffer ℕ) → ((p : ℕ) → p < 2 ^ n → A p < m) → ((p : ℕ) → p < 2 ^ n → F p ≡ fourier-mod m the-root (2 ^ n) A (rev n p)) →
@@ -179,7 +174,7 @@ module _ (m : ℕ) (pos : 0 < m) where
           let sum : (q : ℕ) → Stands (fourier-mod m the-root (2 ^ n) A (rev n q)) (fourier (modulo m pos) (of the-root) (2 ^ n) (λ k. of (A k)) (rev n q)) =
           (λ q. fourier-stands the-root (2 ^ n) A (rev n q)) in
           stands-same
-          (rw (inverse-sums (modulo m pos) (of the-root) n turn (λ e. of (back m n t e)) (back-pow some) (of ((m + 1) / 2)) halved (λ q. of (A q)) (λ q. of (F q)) (λ q l. rw (given q l) (sum q .same)) p h)
+          (rw (inverse-sums (modulo m pos) (of the-root) n turn (λ e. of (back m (2 ^ (n - 1)) t e)) back-pow (of ((m + 1) / 2)) halved (λ q. of (A q)) (λ q. of (F q)) (λ q l. rw (given q l) (sum q .same)) p h)
           at (inverse-stands F (λ q l. rw (given q l) (sum q .below)) p h))
           (stands-self (small p h))
 
@@ -190,7 +185,7 @@ module _ (m : ℕ) (pos : 0 < m) where
           stands-same
           (rw (
             sum-cong (modulo m pos) (2 ^ n) (λ k l. ap (λ z. z ⊗ powers (rev n p * k)) (inverse-stands F small k l .same)),
-            sums-inverse (modulo m pos) (of the-root) n turn (λ e. of (back m n t e)) (back-pow some) (of ((m + 1) / 2)) halved (λ q. of (F q)) p h,
+            sums-inverse (modulo m pos) (of the-root) n turn (λ e. of (back m (2 ^ (n - 1)) t e)) back-pow (of ((m + 1) / 2)) halved (λ q. of (F q)) p h,
           )
           at (fourier-stands the-root (2 ^ n) (inverse-mod m n t F) (rev n p)))
           (stands-self (small p h))

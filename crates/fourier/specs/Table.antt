@@ -35,6 +35,10 @@ pub record Accepted (m h : ℕ) (t : ℕ → ℕ) : Type 0 where
 unfoldable pub lookup : ℕ → ℕ → (ℕ → ℕ) → ℕ → ℕ
 lookup m h t e = cond (ltb e h) (t e) ((m - t (e - h)) % m)
 
+-- x^(-e), looked up at the exponent (N - e) mod N.
+unfoldable pub back : ℕ → ℕ → (ℕ → ℕ) → ℕ → ℕ
+back m h t e = lookup m h t ((h + h - e) % (h + h))
+
 -- ---- the rules as equations
 
 rule-entry : (m h : ℕ) (t : ℕ → ℕ) (i : ℕ) → i < h → rule m h t i ≡ true → (t i < m) × (t i ≡ wanted m h t i)
