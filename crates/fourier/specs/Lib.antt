@@ -4,6 +4,7 @@ pub mod Schedules
 pub mod Sentences
 pub mod Array
 pub mod Embeddings
+pub mod Blocks
 pub mod Halves
 pub mod Leaves
 pub mod Fourier
