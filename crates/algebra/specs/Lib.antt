@@ -1,4 +1,5 @@
 -- The algebra on which the schedules stand.
+pub mod Gaps
 pub mod Ring
 pub mod Solver
 pub mod Sum

@@ -1,10 +1,10 @@
 -- The residues modulo m as a commutative ring. Its map from numbers takes a number to its residue.
 use mathlib.Core.Path.{_≡_, sym, ap, _∙_}
 use mathlib.Core.HLevel.{Σ-prop-path}
-use Prim.Native.Nat.{ℕ, _+_, _-_, _*_, _/_, _%_, _<_, _≤_}
+use Prim.Native.Nat.{ℕ, _+_, _-_, _*_, _%_, _<_, _≤_}
 use native.Mathlib.Nat as N
 use native.Mathlib.Bridge.{le-prop}
-use native.Mathlib.Omega.{arith}
+use Rattle.algebra.specs.Gaps.{mod-mul-left, mod-mul-right}
 use Rattle.algebra.specs.Ring.{Ring, neg-unique}
 
 -- A residue modulo m: a number below m.
@@ -13,15 +13,6 @@ Mod m = (a : ℕ) × (a < m)
 
 pub mod-path : {m : ℕ} {u v : Mod m} → u .0 ≡ v .0 → u ≡ v
 mod-path p = Σ-prop-path (λ x. le-prop) p
-
-pub mod-mul-left : (a b m : ℕ) → a % m * b % m ≡ a * b % m
-mod-mul-left a b m =
-    let whole : (a / m * m + a % m) * b ≡ a * b = ap (λ (z : ℕ). z * b) (N.div-add-mod' a m) in
-    let parts : a * b ≡ m * (a / m * b) + a % m * b = omega arith in
-    rw parts (sym (N.mul-add-mod-self-left m (a / m * b) (a % m * b)))
-
-pub mod-mul-right : (a b m : ℕ) → a * (b % m) % m ≡ a * b % m
-mod-mul-right a b m = rw (N.mul-comm a (b % m), mod-mul-left, N.mul-comm b a)
 
 module _ (m : ℕ) (pos : 0 < m) where
   residue : ℕ → Mod m

@@ -1,7 +1,6 @@
 -- Commutative rings: operations, the map from numbers, and laws as equations; and the laws that follow from them.
-use mathlib.Core.Path.{_≡_, refl, sym, ap, _∙_}
-use Prim.Native.Nat.{ℕ, zero, suc, _+_, _*_, _^_}
-use native.Mathlib.Nat as N
+use mathlib.Core.Path.{_≡_, sym, ap, _∙_}
+use Prim.Native.Nat.{ℕ, _+_, _*_}
 
 pub record Ring (K : Type 0) : Type 0 where
   infixl 65 _⊕_
@@ -63,6 +62,3 @@ module _ {K : Type 0} (R : Ring K) where
 
   pub neg-times : (a b : K) → neg a ⊗ b ≡ neg (a ⊗ b)
   neg-times a b = times-comm (neg a) b ∙ times-neg b a ∙ ap neg (times-comm b a)
-
-  pub neg-plus : (a b : K) → neg (a ⊕ b) ≡ neg a ⊕ neg b
-  neg-plus a b = sym (neg-unique (a ⊕ b) (neg a ⊕ neg b) (plus-assoc a b (neg a ⊕ neg b) ∙ rw (plus-left-comm b (neg a) (neg b), plus-neg b, plus-zero (neg a)) (plus-neg a)))

@@ -5,7 +5,8 @@ use mathlib.Core.Bool.{Bool, true, false, cond, _&&_, Bool·beq}
 use mathlib.Core.List.{List, [], _∷_}
 use Prim.Native.Nat.{ℕ, zero, suc}
 use lib.Dec.{T, leb, eqb, eqb→eq}
-use Rattle.algebra.specs.Ring.{Ring, zero-plus, one-times, plus-left-comm, times-left-comm, plus-times, neg-plus-cancel, neg-neg, times-zero, zero-times, times-neg, neg-times, neg-plus}
+use Rattle.algebra.specs.Gaps.{cond-either}
+use Rattle.algebra.specs.Ring.{Ring, zero-plus, one-times, plus-left-comm, times-left-comm, plus-times, neg-plus-cancel, neg-neg, times-zero, zero-times, times-neg, neg-times}
 
 -- ---- expressions
 
@@ -102,21 +103,17 @@ module _ {K : Type 0} (R : Ring K) (ρ : List K) where
   signed true a = a
   signed false a = neg a
 
-  total : Polynomial → K
-  total none = of 0
-  total (term s m p) = signed s (product m) ⊕ total p
+  worth : Polynomial → K
+  worth none = of 0
+  worth (term s m p) = signed s (product m) ⊕ worth p
 
   -- ---- the normal form has the expression's value
-
-  cond-either : {A : Type 0} (f : A → K) (b : Bool) (x y : A) (z : K) → (T b → f x ≡ z) → f y ≡ z → f (cond b x y) ≡ z
-  cond-either f true x y z g h = g tt
-  cond-either f false x y z g h = h
 
   product-insert : (x : ℕ) (m : List ℕ) → product (insert x m) ≡ look ρ x ⊗ product m
   unfolding product
   product-insert x [] = refl
-  product-insert x (y ∷ m) = cond-either product (leb x y) (x ∷ (y ∷ m)) (y ∷ insert x m) (look ρ x ⊗ product (y ∷ m)) (λ t. refl)
-      (ap (λ z. look ρ y ⊗ z) (product-insert x m) ∙ times-left-comm R (look ρ y) (look ρ x) (product m))
+  product-insert x (y ∷ m) = cond-either (λ l. product l ≡ look ρ x ⊗ product (y ∷ m)) (leb x y) (λ t. refl)
+      (λ t. ap (λ z. look ρ y ⊗ z) (product-insert x m) ∙ times-left-comm R (look ρ y) (look ρ x) (product m))
 
   product-join : (m n : List ℕ) → product (join m n) ≡ product m ⊗ product n
   unfolding product
@@ -140,58 +137,57 @@ module _ {K : Type 0} (R : Ring K) (ρ : List K) where
   signed-beq false true a b = sym (neg-times R a b)
   signed-beq false false a b = sym (neg-times R a (neg b) ∙ ap neg (times-neg R a b) ∙ neg-neg R (a ⊗ b))
 
-  total-meet : (s t : Bool) (m : List ℕ) (p : Polynomial) → total (cond (Bool·beq s t) (term s m (term t m p)) p) ≡ signed s (product m) ⊕ total (term t m p)
-  unfolding total signed
-  total-meet true true m p = refl
-  total-meet false false m p = refl
-  total-meet false true m p = sym (neg-plus-cancel R (product m) (total p))
-  total-meet true false m p = sym (plus-left-comm R (product m) (neg (product m)) (total p) ∙ neg-plus-cancel R (product m) (total p))
+  worth-meet : (s t : Bool) (m : List ℕ) (p : Polynomial) → worth (cond (Bool·beq s t) (term s m (term t m p)) p) ≡ signed s (product m) ⊕ worth (term t m p)
+  unfolding worth signed
+  worth-meet true true m p = refl
+  worth-meet false false m p = refl
+  worth-meet false true m p = sym (neg-plus-cancel R (product m) (worth p))
+  worth-meet true false m p = sym (plus-left-comm R (product m) (neg (product m)) (worth p) ∙ neg-plus-cancel R (product m) (worth p))
 
-  total-put : (s : Bool) (m : List ℕ) (p : Polynomial) → total (put s m p) ≡ signed s (product m) ⊕ total p
-  unfolding total
-  total-put s m none = refl
-  total-put s m (term t n p) =
-      cond-either total (same m n) _ _ z
-      (λ e. rw (same→eq m n e) (total-meet s t n p))
-      (cond-either total (before m n) (term s m (term t n p)) (term t n (put s m p)) z (λ e. refl)
-      (ap (λ y. signed t (product n) ⊕ y) (total-put s m p) ∙ plus-left-comm R (signed t (product n)) (signed s (product m)) (total p)))
+  worth-put : (s : Bool) (m : List ℕ) (p : Polynomial) → worth (put s m p) ≡ signed s (product m) ⊕ worth p
+  unfolding worth
+  worth-put s m none = refl
+  worth-put s m (term t n p) =
+      cond-either Right (same m n) (λ e. rw (same→eq m n e) (worth-meet s t n p))
+      (λ e. cond-either Right (before m n) (λ e. refl)
+      (λ e. ap (λ y. signed t (product n) ⊕ y) (worth-put s m p) ∙ plus-left-comm R (signed t (product n)) (signed s (product m)) (worth p)))
     where
-      z : K
-      z = signed s (product m) ⊕ total (term t n p)
+      Right : Polynomial → Type 0
+      Right q = worth q ≡ signed s (product m) ⊕ worth (term t n p)
 
-  total-add : (p q : Polynomial) → total (add p q) ≡ total p ⊕ total q
-  unfolding total
-  total-add none q = sym (zero-plus R (total q))
-  total-add (term s m p) q = total-put s m (add p q) ∙ ap (λ y. signed s (product m) ⊕ y) (total-add p q) ∙ sym (plus-assoc (signed s (product m)) (total p) (total q))
+  worth-add : (p q : Polynomial) → worth (add p q) ≡ worth p ⊕ worth q
+  unfolding worth
+  worth-add none q = sym (zero-plus R (worth q))
+  worth-add (term s m p) q = worth-put s m (add p q) ∙ ap (λ y. signed s (product m) ⊕ y) (worth-add p q) ∙ sym (plus-assoc (signed s (product m)) (worth p) (worth q))
 
-  total-scale : (s : Bool) (m : List ℕ) (p : Polynomial) → total (scale s m p) ≡ signed s (product m) ⊗ total p
-  unfolding total
-  total-scale s m none = sym (times-zero R (signed s (product m)))
-  total-scale s m (term t n p) =
-      total-put (Bool·beq s t) (join m n) (scale s m p)
-      ∙ ap₂ _⊕_ (ap (signed (Bool·beq s t)) (product-join m n) ∙ signed-beq s t (product m) (product n)) (total-scale s m p)
-      ∙ sym (times-plus (signed s (product m)) (signed t (product n)) (total p))
+  worth-scale : (s : Bool) (m : List ℕ) (p : Polynomial) → worth (scale s m p) ≡ signed s (product m) ⊗ worth p
+  unfolding worth
+  worth-scale s m none = sym (times-zero R (signed s (product m)))
+  worth-scale s m (term t n p) =
+      worth-put (Bool·beq s t) (join m n) (scale s m p)
+      ∙ ap₂ _⊕_ (ap (signed (Bool·beq s t)) (product-join m n) ∙ signed-beq s t (product m) (product n)) (worth-scale s m p)
+      ∙ sym (times-plus (signed s (product m)) (signed t (product n)) (worth p))
 
-  total-multiply : (p q : Polynomial) → total (multiply p q) ≡ total p ⊗ total q
-  unfolding total
-  total-multiply none q = sym (zero-times R (total q))
-  total-multiply (term s m p) q =
-      total-add (scale s m q) (multiply p q) ∙ ap₂ _⊕_ (total-scale s m q) (total-multiply p q) ∙ sym (plus-times R (signed s (product m)) (total p) (total q))
+  worth-multiply : (p q : Polynomial) → worth (multiply p q) ≡ worth p ⊗ worth q
+  unfolding worth
+  worth-multiply none q = sym (zero-times R (worth q))
+  worth-multiply (term s m p) q =
+      worth-add (scale s m q) (multiply p q) ∙ ap₂ _⊕_ (worth-scale s m q) (worth-multiply p q) ∙ sym (plus-times R (signed s (product m)) (worth p) (worth q))
 
-  total-neg : (p : Polynomial) → total (scale false [] p) ≡ neg (total p)
+  worth-neg : (p : Polynomial) → worth (scale false [] p) ≡ neg (worth p)
   unfolding signed product
-  total-neg p = total-scale false [] p ∙ neg-times R (of 1) (total p) ∙ ap neg (one-times R (total p))
+  worth-neg p = worth-scale false [] p ∙ neg-times R (of 1) (worth p) ∙ ap neg (one-times R (worth p))
 
-  total-normal : (a : Expression) → total (normal a) ≡ value a
-  unfolding total signed product
-  total-normal (v n) = plus-zero (look ρ n ⊗ of 1) ∙ times-one (look ρ n)
-  total-normal :0 = refl
-  total-normal :1 = plus-zero (of 1)
-  total-normal (a :+ b) = total-add (normal a) (normal b) ∙ ap₂ _⊕_ (total-normal a) (total-normal b)
-  total-normal (a :- b) = total-add (normal a) (scale false [] (normal b)) ∙ ap₂ _⊕_ (total-normal a) (total-neg (normal b) ∙ ap neg (total-normal b))
-  total-normal (a :* b) = total-multiply (normal a) (normal b) ∙ ap₂ _⊗_ (total-normal a) (total-normal b)
-  total-normal (:neg a) = total-neg (normal a) ∙ ap neg (total-normal a)
+  worth-normal : (a : Expression) → worth (normal a) ≡ value a
+  unfolding worth signed product
+  worth-normal (v n) = plus-zero (look ρ n ⊗ of 1) ∙ times-one (look ρ n)
+  worth-normal :0 = refl
+  worth-normal :1 = plus-zero (of 1)
+  worth-normal (a :+ b) = worth-add (normal a) (normal b) ∙ ap₂ _⊕_ (worth-normal a) (worth-normal b)
+  worth-normal (a :- b) = worth-add (normal a) (scale false [] (normal b)) ∙ ap₂ _⊕_ (worth-normal a) (worth-neg (normal b) ∙ ap neg (worth-normal b))
+  worth-normal (a :* b) = worth-multiply (normal a) (normal b) ∙ ap₂ _⊗_ (worth-normal a) (worth-normal b)
+  worth-normal (:neg a) = worth-neg (normal a) ∙ ap neg (worth-normal a)
 
   -- Two expressions with one normal form are equal: `ring R (a ∷ b ∷ []) LEFT RIGHT refl`, where v 0 is a and v 1 is b.
   pub ring : (a b : Expression) → normal a ≡ normal b → value a ≡ value b
-  ring a b e = sym (total-normal a) ∙ ap total e ∙ total-normal b
+  ring a b e = sym (worth-normal a) ∙ ap worth e ∙ worth-normal b

@@ -1,11 +1,10 @@
 -- Powers and finite sums in a commutative ring, and the sum of natural numbers.
 use mathlib.Core.Path.{_≡_, refl, sym, ap, ap₂, _∙_}
-use mathlib.Core.List.{List, [], _∷_}
-use Prim.Native.Nat.{ℕ, zero, suc, _+_, _*_, _/_, _%_, _^_, _<_}
+use mathlib.Core.List.{[], _∷_}
+use Prim.Native.Nat.{ℕ, zero, suc, _+_, _*_, _%_, _^_, _<_}
 use native.Mathlib.Nat as N
-use native.Mathlib.Omega.{arith}
 use Rattle.algebra.specs.Ring.{Ring, one-times}
-use Rattle.algebra.specs.Solver.{Expression, v, :0, _:+_, _:*_, ring}
+use Rattle.algebra.specs.Solver.{v, :0, _:+_, _:*_, ring}
 
 -- The sum of f(k) over k below n, of natural numbers.
 unfoldable pub total : ℕ → (ℕ → ℕ) → ℕ

@@ -1,16 +1,14 @@
 -- The search for a length's logarithm, candidate by candidate.
 use Prim.Native.Nat.{ℕ, zero, suc, _-_, _/_, _^_, _<_}
 use mathlib.Core.Path.{_≡_}
-use native.Mathlib.Nat.{two-pow-succ, not-suc-le-zero}
+use native.Mathlib.Nat.{le-refl, two-pow-succ, not-suc-le-zero}
 use native.Mathlib.Omega.{arith}
-use borrow.Author.Tests.{eq-eqb, ne-eqb}
-use Rattle.answer.specs.Lengths.{log-up-to}
+use borrow.Author.Tests.{ne-eqb}
+use Rattle.answer.specs.Lengths.{log-up-to, found}
 
 -- The candidate n is met.
 pub log-hit : (n N : ℕ) → 0 < n → N ≡ 2 ^ n → log-up-to n N ≡ n
-unfolding log-up-to
-log-hit zero N h e = absurd (not-suc-le-zero h)
-log-hit (suc n) N h e = rw (eq-eqb N (2 ^ suc n) e)
+log-hit n N h e = rw e (found n n h (le-refl n))
 
 -- The candidate n is missed.
 pub log-miss : (n N : ℕ) → 0 < n → (N ≡ 2 ^ n → ⊥) → log-up-to n N ≡ log-up-to (n - 1) N

@@ -1,4 +1,4 @@
--- Two cases of two numbers, which the kit's library lacks.
+-- Two cases of two numbers, as a choice that ⊎-elim takes.
 use Prim.Native.Nat.{ℕ, _<_, _≤_}
 use mathlib.Core.Path.{_≡_, refl}
 use mathlib.Core.Bool.{Bool, true, false}

@@ -1,6 +1,6 @@
 -- The permitted lengths.
-use Prim.Native.Nat.{ℕ, zero, suc, _-_, _^_, _≤_, _<_}
-use mathlib.Core.Path.{_≡_, refl, sym, _∙_}
+use Prim.Native.Nat.{ℕ, zero, suc, _^_, _≤_, _<_}
+use mathlib.Core.Path.{_≡_, refl, sym}
 use mathlib.Core.Bool.{Bool, true, false, cond}
 use mathlib.Core.Logic.{⊎-elim}
 use native.Mathlib.Nat.{eq-or-lt-of-le}
@@ -19,7 +19,7 @@ unfoldable pub log-of : ℕ → ℕ
 log-of N = log-up-to 12 N
 
 -- Each candidate from 1 to k is found.
-found : (k n : ℕ) → 1 ≤ n → n ≤ k → log-up-to k (2 ^ n) ≡ n
+pub found : (k n : ℕ) → 1 ≤ n → n ≤ k → log-up-to k (2 ^ n) ≡ n
 unfolding log-up-to
 found zero n a b = absurd (omega arith)
 found (suc k) n a b =
@@ -27,14 +27,15 @@ found (suc k) n a b =
     (λ l. let h : 2 ^ n < 2 ^ suc k = pow-lt l in rw (ne-eqb (2 ^ n) (2 ^ suc k) (λ e. omega arith)) (found k n a (omega arith))) (eq-or-lt-of-le b)
 
 -- What is found is a candidate.
-candidate : (k N p : ℕ) → log-up-to k N ≡ suc p → (N ≡ 2 ^ suc p) × (suc p ≤ k)
+candidate : (k N : ℕ) → 1 ≤ log-up-to k N → (N ≡ 2 ^ log-up-to k N) × (log-up-to k N ≤ k)
 unfolding log-up-to
-candidate zero N p e = absurd (omega arith)
-candidate (suc k) N p e = go (eqb N (2 ^ suc k)) refl e (candidate k N p)
+candidate zero N h = absurd (omega arith)
+candidate (suc k) N h = go (eqb N (2 ^ suc k)) refl h (candidate k N)
   where
-    go : (t : Bool) → eqb N (2 ^ suc k) ≡ t → cond t (suc k) (log-up-to k N) ≡ suc p → (log-up-to k N ≡ suc p → (N ≡ 2 ^ suc p) × (suc p ≤ k)) → (N ≡ 2 ^ suc p) × (suc p ≤ suc k)
-    go true h q ih = (eqb-true N (2 ^ suc k) h ∙ rw q refl, omega arith)
-    go false h q ih = let r = ih q in (r .0, omega arith)
+    go : (t : Bool) → eqb N (2 ^ suc k) ≡ t → 1 ≤ cond t (suc k) (log-up-to k N) → (1 ≤ log-up-to k N → (N ≡ 2 ^ log-up-to k N) × (log-up-to k N ≤ k)) →
+        (N ≡ 2 ^ cond t (suc k) (log-up-to k N)) × (cond t (suc k) (log-up-to k N) ≤ suc k)
+    go true e q ih = (eqb-true N (2 ^ suc k) e, omega arith)
+    go false e q ih = let r = ih q in (r .0, omega arith)
 
 -- 2^n is permitted for n from 1 to 12.
 pub power-permitted : (n : ℕ) → 1 ≤ n → n ≤ 12 → log-of (2 ^ n) ≡ n
@@ -42,15 +43,11 @@ unfolding log-of
 power-permitted n a b = found _ n a (omega arith)
 
 -- A permitted length is 2^n, n from 1 to 12.
-pub permitted-power : (N p : ℕ) → log-of N ≡ suc p → (N ≡ 2 ^ suc p) × (suc p ≤ 12)
-unfolding log-of
-permitted-power N p e = let r = candidate _ N p e in (r .0, omega arith)
-
--- The same, where only the logarithm is at hand.
 pub permitted-log : (N : ℕ) → 1 ≤ log-of N → (N ≡ 2 ^ log-of N) × (log-of N ≤ 12)
-permitted-log N h = let e : log-of N ≡ suc (log-of N - 1) = omega arith in rw (← e) at (permitted-power N (log-of N - 1) e)
+unfolding log-of
+permitted-log N h = let r = candidate _ N h in (r .0, omega arith)
 
--- A permitted length is from 2 to 4,096.
+-- It is from 2 to 4,096.
 pub permitted-range : (N : ℕ) → 1 ≤ log-of N → (2 ≤ N) × (N ≤ 4096)
 permitted-range N h =
     let r = permitted-log N h in

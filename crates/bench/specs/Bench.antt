@@ -1,29 +1,39 @@
 -- Document 01's bench values marked P, in one theorem about the definitions. They are about the steps before any reordering.
 use Prim.Native.Nat.{ℕ}
 use mathlib.Core.Path.{_≡_, refl}
-use mathlib.Core.List.{List, [], _∷_}
+use mathlib.Core.List.{[], _∷_}
+use Rattle.answer.specs.Choice.{refuse-at, done, judged-at}
+use Rattle.answer.specs.Search.{first}
 use Rattle.answer.specs.Lists.{at, tabulate}
 use Rattle.algebra.specs.Sum.{total}
 use Rattle.fourier.specs.Reverse.{rev}
-use Rattle.fourier.specs.Schedules.{Wing, Buffer, butterfly, shuffled, columns, shuffle, pease, step, run, halves}
-use Rattle.fourier.specs.Leaves.{schedule1, schedule2, schedule3, schedule4, schedule5}
-use Rattle.fourier.specs.Table.{lookup, back}
+use Rattle.fourier.specs.Schedules.{Wing, Buffer, butterfly, shuffled, columns, shuffle, pease, step, run, halves, schedule1, schedule2, schedule3, schedule4, schedule5}
+use Rattle.fourier.specs.Table.{root, wanted, rule, lookup, back}
 use Rattle.fourier.specs.Numbers.{fourier-mod, frequency-mod, time-mod, inverse-mod}
 
--- m = 5, table 1 2: the steps of schedules 1, 2 and 3, and of 4 and 5.
+-- m = 5, table 1 2, samples 1 2 3 4.
+abbrev table : ℕ → ℕ
+table = at (1 ∷ 2 ∷ [])
+
 abbrev five : Wing ℕ
-five = frequency-mod 5 (lookup 5 2 (at (1 ∷ 2 ∷ [])))
+five = frequency-mod 5 2 table
 
 abbrev five-time : Wing ℕ
-five-time = time-mod 5 (lookup 5 2 (at (1 ∷ 2 ∷ [])))
+five-time = time-mod 5 2 table
 
--- Samples 1 2 3 4.
 abbrev samples : Buffer ℕ
 samples = at (1 ∷ 2 ∷ 3 ∷ 4 ∷ [])
 
+-- m = 3, table 1, samples 2 1.
+abbrev one : ℕ → ℕ
+one = at (1 ∷ [])
+
+abbrev two-samples : Buffer ℕ
+two-samples = at (2 ∷ 1 ∷ [])
+
 bench :
     -- m = 5, table 1 2, samples 1 2 3 4. Sums in order; what schedules 1, 2, 3 and 5 leave
-    (tabulate 4 (fourier-mod 5 2 4 samples) ≡ 0 ∷ 4 ∷ 3 ∷ 2 ∷ [])
+    (tabulate 4 (fourier-mod 5 (root 5 2 table) 4 samples) ≡ 0 ∷ 4 ∷ 3 ∷ 2 ∷ [])
     × (tabulate 4 (schedule1 2 ℕ five samples) ≡ 0 ∷ 3 ∷ 4 ∷ 2 ∷ [])
     × (tabulate 4 (schedule2 2 ℕ five samples) ≡ 0 ∷ 3 ∷ 4 ∷ 2 ∷ [])
     × (tabulate 4 (schedule3 2 ℕ five samples) ≡ 0 ∷ 3 ∷ 4 ∷ 2 ∷ [])
@@ -35,10 +45,19 @@ bench :
     -- schedule 4 on 1 3 2 4
     × (tabulate 4 (schedule4 2 ℕ five-time (at (1 ∷ 3 ∷ 2 ∷ 4 ∷ []))) ≡ 0 ∷ 4 ∷ 3 ∷ 2 ∷ [])
     -- the inverse of 0 3 4 2
-    × (tabulate 4 (inverse-mod 5 2 (at (1 ∷ 2 ∷ [])) (at (0 ∷ 3 ∷ 4 ∷ 2 ∷ []))) ≡ 1 ∷ 2 ∷ 3 ∷ 4 ∷ [])
+    × (tabulate 4 (inverse-mod 5 2 table (at (0 ∷ 3 ∷ 4 ∷ 2 ∷ []))) ≡ 1 ∷ 2 ∷ 3 ∷ 4 ∷ [])
     -- m = 3, table 1, samples 2 1
-    × (tabulate 2 (schedule1 1 ℕ (frequency-mod 3 (lookup 3 1 (at (1 ∷ [])))) (at (2 ∷ 1 ∷ []))) ≡ 0 ∷ 1 ∷ [])
+    × (tabulate 2 (schedule1 1 ℕ (frequency-mod 3 1 one) two-samples) ≡ 0 ∷ 1 ∷ [])
+    × (tabulate 2 (schedule2 1 ℕ (frequency-mod 3 1 one) two-samples) ≡ 0 ∷ 1 ∷ [])
+    × (tabulate 2 (schedule3 1 ℕ (frequency-mod 3 1 one) two-samples) ≡ 0 ∷ 1 ∷ [])
+    × (tabulate 2 (schedule4 1 ℕ (time-mod 3 1 one) two-samples) ≡ 0 ∷ 1 ∷ [])
+    × (tabulate 2 (schedule5 1 ℕ (time-mod 3 1 one) two-samples) ≡ 0 ∷ 1 ∷ [])
+    × (tabulate 2 (fourier-mod 3 (root 3 1 one) 2 two-samples) ≡ 0 ∷ 1 ∷ [])
+    -- these tables are accepted; m = 5, table 1 4 is refused 4 at place 2
+    × (judged-at 4 (first (rule 5 2 table) 0 3) done ≡ done)
+    × (judged-at 4 (first (rule 3 1 one) 0 2) done ≡ done)
+    × (judged-at 4 (first (rule 5 2 (at (1 ∷ 4 ∷ []))) 0 3) done ≡ refuse-at 4 2)
     -- reversal for N = 8
     × (tabulate 8 (rev 3) ≡ 0 ∷ 4 ∷ 2 ∷ 6 ∷ 1 ∷ 5 ∷ 3 ∷ 7 ∷ [])
-unfolding tabulate total rev butterfly shuffled run halves fourier-mod lookup back inverse-mod
-bench = (refl, refl, refl, refl, refl, refl, refl, refl, refl, refl, refl, refl)
+unfolding tabulate total rev butterfly shuffled run halves fourier-mod root wanted rule lookup back inverse-mod first
+bench = (refl, refl, refl, refl, refl, refl, refl, refl, refl, refl, refl, refl, refl, refl, refl, refl, refl, refl, refl, refl)

@@ -1,18 +1,18 @@
 -- Dijkstra's two-dimensional array over any carrier and any step, and how a schedule embeds it in a buffer.
 use Prim.Native.Nat.{ℕ, zero, suc, _+_, _-_, _*_, _/_, _%_, _^_, _<_, _≤_}
-use mathlib.Core.Path.{_≡_, refl, ap, _∙_}
-use native.Mathlib.Nat.{le-refl, sub-self, sub-zero}
+use mathlib.Core.Path.{_≡_}
+use native.Mathlib.Nat.{le-refl, sub-zero}
 use native.Mathlib.Omega.{arith}
 use lib.Pow.{pow-pos}
 use Rattle.fourier.specs.Reverse.{rev}
-use Rattle.fourier.specs.Schedules.{Wing, Buffer, Source, from, Stage, step, run}
-use Rattle.fourier.specs.Sentences.{rows}
+use Rattle.fourier.specs.Schedules.{Wing, Buffer, from, Stage, step, run}
+use Rattle.fourier.specs.Sizes.{rows}
 
 -- The exponent of step s, counted from 0, at row i and at column j before the step.
 abbrev pub Exponents : Type 0
 Exponents = ℕ → ℕ → ℕ → ℕ
 
--- Decimation in frequency (004): the x^(n i) of equation 4. Decimation in time (001).
+-- Decimation in frequency: the exponent of 004's equation 4; and in time (001).
 abbrev pub frequency : Exponents
 frequency s i j = 2 ^ s * i
 
@@ -26,7 +26,7 @@ array w e n A zero i j = A i
 array w e n A (suc s) i j = w (j % 2) (e s i (j / 2)) (array w e n A s i (j / 2)) (array w e n A s (i + 2 ^ (n - suc s)) (j / 2))
 
 -- The array after s steps stands in the buffer d, row i and column j at `place i j`.
-pub record Holds {C : Type 0} (w : Wing C) (e : Exponents) (n : ℕ) (A : Buffer C) (place : ℕ → ℕ → ℕ) (s : ℕ) (d : Buffer C) : Type 0 where
+pub record Embedded {C : Type 0} (w : Wing C) (e : Exponents) (n : ℕ) (A : Buffer C) (place : ℕ → ℕ → ℕ) (s : ℕ) (d : Buffer C) : Type 0 where
   pub at : (i j : ℕ) → i < 2 ^ (n - s) → j < 2 ^ s → d (place i j) ≡ array w e n A s i j
 
 -- A schedule embeds the array: after s stages row i and column j stand at `place s i j`. Sample i stands at `order i` before the first
@@ -39,7 +39,7 @@ pub record Embeds (e : Exponents) (n : ℕ) (order : ℕ → ℕ) (place : ℕ �
 
 module _ {e : Exponents} {n : ℕ} {order : ℕ → ℕ} {place : ℕ → ℕ → ℕ → ℕ} {σ : ℕ → Stage} (embeds : Embeds e n order place σ) {C : Type 0} (w : Wing C) where
   -- One stage takes the array to the next.
-  pub stage-array : {A : Buffer C} (s : ℕ) {d : Buffer C} → s < n → Holds w e n A (place s) s d → Holds w e n A (place (suc s)) (suc s) (step w (σ s) d)
+  pub stage-array : {A : Buffer C} (s : ℕ) {d : Buffer C} → s < n → Embedded w e n A (place s) s d → Embedded w e n A (place (suc s)) (suc s) (step w (σ s) d)
   unfolding array
   stage-array s l held = record {
     at = λ i j hi hj.
@@ -48,7 +48,7 @@ module _ {e : Exponents} {n : ℕ} {order : ℕ → ℕ} {place : ℕ → ℕ �
   }
 
   -- After s stages the array of s steps stands in the buffer.
-  pub run-array : (d : Buffer C) (s : ℕ) → s ≤ n → Holds w e n (λ i. d (order i)) (place s) s (run w σ s d)
+  pub run-array : (d : Buffer C) (s : ℕ) → s ≤ n → Embedded w e n (λ i. d (order i)) (place s) s (run w σ s d)
   unfolding run array
   run-array d zero l = record {
     at = λ i j hi hj. let z : j ≡ 0 = omega arith in rw (z, embeds .start i (rw sub-zero at hi));

@@ -4,7 +4,7 @@ use mathlib.Core.Path.{_≡_}
 use native.Mathlib.Nat.{zero-mul, zero-add}
 use native.Mathlib.Omega.{arith}
 use native.Mathlib.Decide.{decLt}
-use Rattle.fourier.specs.Schedules.{Wing, Buffer, Source, Stage, butterfly, step}
+use Rattle.fourier.specs.Schedules.{Wing, Buffer, butterfly, step}
 use Rattle.fourier.specs.Sentences.{Receive, butterfly-receive, butterfly-shift}
 
 -- The first block: places i and i + h.

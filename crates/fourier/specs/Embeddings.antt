@@ -1,26 +1,26 @@
 -- Schedules 1, 2, 4 and 5 embed Dijkstra's array: by columns, by rows, and in reversed order.
-use Prim.Native.Nat.{ℕ, zero, suc, _+_, _-_, _*_, _/_, _%_, _^_, _<_, _≤_}
+use Prim.Native.Nat.{ℕ, suc, _+_, _-_, _*_, _/_, _%_, _^_, _<_}
 use mathlib.Core.Path.{_≡_, refl, ap, _∙_}
-use native.Mathlib.Nat.{add-assoc, sub-self, sub-zero, pow-suc, div-add-mod'}
+use native.Mathlib.Nat.{sub-self, sub-zero, pow-suc, div-add-mod'}
 use native.Mathlib.Omega.{arith}
 use lib.Arith.{digits-div, digits-mod}
 use Rattle.fourier.specs.Reverse.{rev, rev-lt, rev-low, rev-high}
-use Rattle.fourier.specs.Schedules.{Source, from, Stage, butterfly, shuffled, columns, shuffle, thong, pease}
-use Rattle.fourier.specs.Sentences.{rows, half-buffer, butterfly-pair, shuffled-pair}
+use Rattle.fourier.specs.Schedules.{shuffled, columns, shuffle, thong, pease}
+use Rattle.fourier.specs.Sizes.{one-more, rows, half-buffer}
+use Rattle.fourier.specs.Sentences.{butterfly-pair, shuffled-pair}
 use Rattle.fourier.specs.Array.{Exponents, frequency, time, Embeds}
 
 -- ---- places
 
--- Column-wise, row i of column j behind the columns before it (004, equation 5); row-wise (004, equation 6); and, for schedule 4,
--- row-wise with rows and columns in reversed order.
-abbrev pub by-columns : ℕ → ℕ → ℕ → ℕ → ℕ
-by-columns n s i j = 2 ^ (n - s) * j + i
+-- Column-wise (004, equation 5), row-wise (004, equation 6), and row-wise with rows and columns in reversed order.
+abbrev pub column-wise : ℕ → ℕ → ℕ → ℕ → ℕ
+column-wise n s i j = 2 ^ (n - s) * j + i
 
-abbrev pub by-rows : ℕ → ℕ → ℕ → ℕ
-by-rows s i j = 2 ^ s * i + j
+abbrev pub row-wise : ℕ → ℕ → ℕ → ℕ
+row-wise s i j = 2 ^ s * i + j
 
-abbrev pub by-reversal : ℕ → ℕ → ℕ → ℕ → ℕ
-by-reversal n s i j = 2 ^ s * rev (n - s) i + rev s j
+abbrev pub reversed-wise : ℕ → ℕ → ℕ → ℕ → ℕ
+reversed-wise n s i j = 2 ^ s * rev (n - s) i + rev s j
 
 -- Samples and sums in order, for schedules 1, 2, 3 and 5.
 abbrev pub straight : ℕ → ℕ
@@ -28,7 +28,7 @@ straight p = p
 
 -- ---- embeddings
 
-pub columns-embeds : (n : ℕ) → Embeds frequency n straight (by-columns n) (columns n)
+pub columns-embeds : (n : ℕ) → Embeds frequency n straight (column-wise n) (columns n)
 columns-embeds n = record {
   start = λ i hi. omega arith;
   takes = λ s i j l hi hj.
@@ -41,7 +41,7 @@ columns-embeds n = record {
 }
 
 -- The shuffle, at exponents that step s has at row k / 2^s and column k mod 2^s.
-shuffled-embeds : (e : Exponents) (n : ℕ) (f : ℕ → ℕ → ℕ) → ((s k : ℕ) → f s k ≡ e s (k / 2 ^ s) (k % 2 ^ s)) → Embeds e n straight by-rows (λ s. shuffled (2 ^ (n - 1)) (f s))
+shuffled-embeds : (e : Exponents) (n : ℕ) (f : ℕ → ℕ → ℕ) → ((s k : ℕ) → f s k ≡ e s (k / 2 ^ s) (k % 2 ^ s)) → Embeds e n straight row-wise (λ s. shuffled (2 ^ (n - 1)) (f s))
 shuffled-embeds e n f same = record {
   start = λ i hi. omega arith;
   takes = λ s i j l hi hj.
@@ -54,13 +54,13 @@ shuffled-embeds e n f same = record {
   finish = λ p hp. omega arith;
 }
 
-pub shuffle-embeds : (n : ℕ) → Embeds frequency n straight by-rows (shuffle n)
+pub shuffle-embeds : (n : ℕ) → Embeds frequency n straight row-wise (shuffle n)
 shuffle-embeds n = shuffled-embeds frequency n _ (λ s k. omega (arith, div-add-mod' k (2 ^ s)))
 
-pub pease-embeds : (n : ℕ) → Embeds (time n) n straight by-rows (pease n)
+pub pease-embeds : (n : ℕ) → Embeds (time n) n straight row-wise (pease n)
 pease-embeds n = shuffled-embeds (time n) n _ (λ s k. refl)
 
-pub thong-embeds : (n : ℕ) → Embeds (time n) n (rev n) (by-reversal n) (thong n)
+pub thong-embeds : (n : ℕ) → Embeds (time n) n (rev n) (reversed-wise n) (thong n)
 unfolding rev
 thong-embeds n = record {
   start = λ i hi. rw sub-zero (omega arith);
@@ -68,10 +68,9 @@ thong-embeds n = record {
       let h = 2 ^ s in
       let r = rev (n - suc s) i in
       let k = rev s (j / 2) in
-      let more : n - s ≡ suc (n - suc s) = omega arith in
       let place : 2 ^ suc s * r + (j % 2 * h + k) ≡ r * (h + h) + j % 2 * h + k = rw pow-suc (omega arith) in
-      let first : r * (h + h) + k ≡ h * rev (n - s) i + k = rw (more, rev-low) (omega arith) in
-      let second : r * (h + h) + k + h ≡ h * rev (n - s) (i + 2 ^ (n - suc s)) + k = rw (more, rev-high) (omega arith) in
+      let first : r * (h + h) + k ≡ h * rev (n - s) i + k = rw (one-more l, rev-low) (omega arith) in
+      let second : r * (h + h) + k + h ≡ h * rev (n - s) (i + 2 ^ (n - suc s)) + k = rw (one-more l, rev-high) (omega arith) in
       rw (place, butterfly-pair (2 ^ (n - suc s)) h r k (j % 2) (rev-lt s (j / 2)) (omega arith), second, first);
   finish = λ p hp. rw sub-self (omega arith);
 }

@@ -1,17 +1,17 @@
 -- The Fourier sum over a commutative ring with x^(N/2) = -1: Dijkstra's invariant, and that every schedule leaves the sums.
 use Prim.Native.Nat.{ℕ, zero, suc, _+_, _-_, _*_, _/_, _%_, _^_, _<_, _≤_}
 use mathlib.Core.Path.{_≡_, refl, sym, ap, _∙_}
-use mathlib.Core.List.{List, [], _∷_}
-use native.Mathlib.Nat.{le-refl, zero-add, add-zero, mul-zero, zero-mul, mul-comm, sub-zero, sub-self, pow-suc}
+use mathlib.Core.List.{[], _∷_}
+use native.Mathlib.Nat.{le-refl, zero-add, mul-zero, zero-mul, mul-comm, sub-zero, sub-self, pow-suc}
 use native.Mathlib.Omega.{arith}
 use Rattle.algebra.specs.Ring.{Ring, one-times}
-use Rattle.algebra.specs.Solver.{Expression, v, :1, _:+_, _:-_, _:*_, :neg, ring}
+use Rattle.algebra.specs.Solver.{v, :1, _:+_, _:-_, _:*_, :neg, ring}
 use Rattle.algebra.specs.Sum.{pow, sum, pow-zero, pow-one, pow-plus, pow-times, one-pow, sum-one, sum-cong, sum-plus, sum-split}
-use Rattle.fourier.specs.Reverse.{rev, rev-rev}
-use Rattle.fourier.specs.Schedules.{Wing, Buffer}
-use Rattle.fourier.specs.Sentences.{rows, half-buffer}
+use Rattle.fourier.specs.Reverse.{rev}
+use Rattle.fourier.specs.Schedules.{Wing, Buffer, Schedule, Arithmetic, in-frequency, in-time}
+use Rattle.fourier.specs.Sizes.{rows, half-buffer}
 use Rattle.fourier.specs.Array.{Exponents, frequency, time, array}
-use Rattle.fourier.specs.Leaves.{Schedule, Leaves}
+use Rattle.fourier.specs.Leaves.{Leaves}
 
 module _ {K : Type 0} (R : Ring K) where
   infixl 65 _⊕_
@@ -22,14 +22,8 @@ module _ {K : Type 0} (R : Ring K) where
   unfoldable pub fourier : K → ℕ → Buffer K → ℕ → K
   fourier x N A j = sum R N (λ k. A k ⊗ pow R x (j * k))
 
-  -- The steps of schedules 1, 2 and 3, and of 4 and 5: t is the table, by its exponents.
-  abbrev pub in-frequency : (ℕ → K) → Wing K
-  in-frequency t zero e a b = a ⊕ b
-  in-frequency t (suc x) e a b = t e ⊗ (a ⊕ neg b)
-
-  abbrev pub in-time : (ℕ → K) → Wing K
-  in-time t zero e a b = a ⊕ t e ⊗ b
-  in-time t (suc x) e a b = a ⊕ neg (t e ⊗ b)
+  abbrev pub arithmetic : Arithmetic K
+  arithmetic = record { plus = _⊕_; minus = λ a b. a ⊕ neg b; times = _⊗_ }
 
   -- ---- minus one, an even and an odd number of times
 
@@ -46,7 +40,7 @@ module _ {K : Type 0} (R : Ring K) where
     -- ---- a step of the invariant: c columns, rows i and h + i, where x^(c h) = -1
 
     term : (c h k i b : ℕ) (p q : K) → pow R x (c * h) ≡ neg (of 1) → b < 2 →
-        in-frequency (pow R x) b (c * i) p q ⊗ pow R x (c * 2 * i * k) ≡ p ⊗ pow R x (c * i * (2 * k + b)) ⊕ q ⊗ pow R x (c * (h + i) * (2 * k + b))
+        in-frequency arithmetic (pow R x) b (c * i) p q ⊗ pow R x (c * 2 * i * k) ≡ p ⊗ pow R x (c * i * (2 * k + b)) ⊕ q ⊗ pow R x (c * (h + i) * (2 * k + b))
     term c h k i zero p q turn l =
         let low : c * i * (2 * k + 0) ≡ c * 2 * i * k = omega arith in
         let high : c * (h + i) * (2 * k + 0) ≡ c * h * (2 * k) + c * 2 * i * k = omega arith in
@@ -62,7 +56,7 @@ module _ {K : Type 0} (R : Ring K) where
     -- ---- the two decimations: x^(i rev(j)) leads from one array to the other
 
     conjugate : (c h i r b : ℕ) (p q : K) → b < 2 →
-        in-frequency (pow R x) b (c * i) (pow R x (i * r) ⊗ p) (pow R x ((i + h) * r) ⊗ q) ≡ pow R x (i * (b * c + r)) ⊗ in-time (pow R x) b (h * r) p q
+        in-frequency arithmetic (pow R x) b (c * i) (pow R x (i * r) ⊗ p) (pow R x ((i + h) * r) ⊗ q) ≡ pow R x (i * (b * c + r)) ⊗ in-time arithmetic (pow R x) b (h * r) p q
     conjugate c h i r zero p q l =
         let high : (i + h) * r ≡ i * r + h * r = omega arith in
         let low : i * (0 * c + r) ≡ i * r = omega arith in
@@ -76,21 +70,21 @@ module _ {K : Type 0} (R : Ring K) where
     conjugate c h i r (suc (suc b)) p q l = absurd (omega arith)
 
     pub frequency-time : (n : ℕ) (A : Buffer K) (s i j : ℕ) →
-        array (in-frequency (pow R x)) frequency n A s i j ≡ pow R x (i * rev s j) ⊗ array (in-time (pow R x)) (time n) n A s i j
+        array (in-frequency arithmetic (pow R x)) frequency n A s i j ≡ pow R x (i * rev s j) ⊗ array (in-time arithmetic (pow R x)) (time n) n A s i j
     unfolding array rev
     frequency-time n A zero i j = rw (mul-zero, pow-zero) (sym (one-times R (A i)))
     frequency-time n A (suc s) i j =
         rw (frequency-time n A s i (j / 2), frequency-time n A s (i + 2 ^ (n - suc s)) (j / 2))
         (conjugate (2 ^ s) (2 ^ (n - suc s)) i (rev s (j / 2)) (j % 2) _ _ (omega arith))
 
-    module _ (n : ℕ) (root : pow R x (2 ^ (n - 1)) ≡ neg (of 1)) where
-      -- Dijkstra's invariant (004, equation 1), with m = 2^(n-s) rows and 2^s columns.
+    module _ (n : ℕ) (turn : pow R x (2 ^ (n - 1)) ≡ neg (of 1)) where
+      -- Dijkstra's invariant (004, equation 1), with 2^(n-s) rows and 2^s columns.
       pub invariant : (A : Buffer K) (s : ℕ) → s ≤ n → (k j : ℕ) →
-          sum R (2 ^ (n - s)) (λ i. array (in-frequency (pow R x)) frequency n A s i j ⊗ pow R x (2 ^ s * i * k)) ≡ fourier x (2 ^ n) A (2 ^ s * k + rev s j)
+          sum R (2 ^ (n - s)) (λ i. array (in-frequency arithmetic (pow R x)) frequency n A s i j ⊗ pow R x (2 ^ s * i * k)) ≡ fourier x (2 ^ n) A (2 ^ s * k + rev s j)
       unfolding array rev fourier
       invariant A zero l k j = rw sub-zero (sum-cong R (2 ^ n) (λ i _. let z : 1 * i * k ≡ (1 * k + 0) * i = omega arith in rw z))
       invariant A (suc s) l k j =
-          sum-cong R h (λ i _. rw (pow-suc, mate i) (term c h k i (j % 2) (B i) (B (h + i)) turn (omega arith)))
+          sum-cong R h (λ i _. rw (pow-suc, mate i) (term c h k i (j % 2) (B i) (B (h + i)) half-turn (omega arith)))
           ∙ sum-plus R h g (λ i. g (h + i)) ∙ sym (sum-split R h h g)
           ∙ (rw (rows l) at (invariant A s (omega arith) (2 * k + j % 2) (j / 2)))
           ∙ ap (fourier x (2 ^ n) A) place
@@ -102,7 +96,7 @@ module _ {K : Type 0} (R : Ring K) where
           h = 2 ^ (n - suc s)
 
           B : ℕ → K
-          B i = array (in-frequency (pow R x)) frequency n A s i (j / 2)
+          B i = array (in-frequency arithmetic (pow R x)) frequency n A s i (j / 2)
 
           g : ℕ → K
           g i = B i ⊗ pow R x (c * i * (2 * k + j % 2))
@@ -110,8 +104,8 @@ module _ {K : Type 0} (R : Ring K) where
           mate : (i : ℕ) → i + h ≡ h + i
           mate i = omega arith
 
-          turn : pow R x (c * h) ≡ neg (of 1)
-          turn = rw (mul-comm, half-buffer l) root
+          half-turn : pow R x (c * h) ≡ neg (of 1)
+          half-turn = rw (mul-comm, half-buffer l) turn
 
           place : c * (2 * k + j % 2) + rev s (j / 2) ≡ 2 ^ suc s * k + (j % 2 * c + rev s (j / 2))
           place = rw pow-suc (omega arith)
@@ -120,28 +114,23 @@ module _ {K : Type 0} (R : Ring K) where
       pub record Decimates (e : Exponents) (w : Wing K) : Type 0 where
         pub last : (A : Buffer K) (p : ℕ) → array w e n A n 0 p ≡ fourier x (2 ^ n) A (rev n p)
 
-      pub decimates-frequency : Decimates frequency (in-frequency (pow R x))
+      pub decimates-frequency : Decimates frequency (in-frequency arithmetic (pow R x))
       decimates-frequency = record {
         last = λ A p.
-            let row = sum-one R (λ i. array (in-frequency (pow R x)) frequency n A n i p ⊗ pow R x (2 ^ n * i * 0)) in
-            let one : array (in-frequency (pow R x)) frequency n A n 0 p ⊗ pow R x (2 ^ n * 0 * 0) ≡ array (in-frequency (pow R x)) frequency n A n 0 p = rw (mul-zero, pow-zero) (times-one _) in
+            let row = sum-one R (λ i. array (in-frequency arithmetic (pow R x)) frequency n A n i p ⊗ pow R x (2 ^ n * i * 0)) in
+            let one : array (in-frequency arithmetic (pow R x)) frequency n A n 0 p ⊗ pow R x (2 ^ n * 0 * 0) ≡ array (in-frequency arithmetic (pow R x)) frequency n A n 0 p = rw (mul-zero, pow-zero) (times-one _) in
             sym one ∙ sym row ∙ (rw (sub-self, mul-zero, zero-add) at (invariant A n (le-refl n) 0 p));
       }
 
-      pub decimates-time : Decimates (time n) (in-time (pow R x))
+      pub decimates-time : Decimates (time n) (in-time arithmetic (pow R x))
       decimates-time = record {
         last = λ A p.
             let same = frequency-time n A n 0 p in
             sym (rw (zero-mul, pow-zero, one-times) at same) ∙ decimates-frequency .last A p;
       }
 
-      -- Schedules 1, 2, 3 and 5 take samples in order and leave f(rev(p)) at place p; schedule 4 takes them in reversed order and
-      -- leaves f(p), since there `order` is the reversal.
-      pub sums : {e : Exponents} {w : Wing K} {order : ℕ → ℕ} {f : Schedule} → Decimates e w → Leaves e n order f →
-          (d : Buffer K) (p : ℕ) → p < 2 ^ n → f K w d p ≡ fourier x (2 ^ n) (λ i. d (order i)) (rev n (order p))
+      -- Every schedule leaves the sum `index p` at place p.
+      pub sums : {e : Exponents} {w : Wing K} {order index : ℕ → ℕ} {f : Schedule} → Decimates e w → Leaves e n order index f →
+          (d : Buffer K) (p : ℕ) → p < 2 ^ n → f K w d p ≡ fourier x (2 ^ n) (λ i. d (order i)) (index p)
       sums {w = w} {order = order} decimates leaves d p h =
-          (rw (leaves .again p h) at (leaves .last K w d (order p) (leaves .within p h))) ∙ decimates .last (λ i. d (order i)) (order p)
-
-      pub sums-reversed : {w : Wing K} {f : Schedule} → Decimates (time n) w → Leaves (time n) n (rev n) f →
-          (d : Buffer K) (p : ℕ) → p < 2 ^ n → f K w d p ≡ fourier x (2 ^ n) (λ i. d (rev n i)) p
-      sums-reversed decimates leaves d p h = rw (rev-rev n p h) at (sums decimates leaves d p h)
+          rw (leaves .again p h, leaves .stands p h) at (leaves .last K w d (order p) (leaves .within p h) ∙ decimates .last (λ i. d (order i)) (order p))

@@ -2,26 +2,26 @@
 -- back a step by x^e, but for a factor 2. It gives the samples back, and a transform of the inverse gives back what was given.
 use Prim.Native.Nat.{ℕ, zero, suc, _+_, _-_, _*_, _/_, _%_, _^_, _<_, _≤_}
 use mathlib.Core.Path.{_≡_, refl, sym, ap, _∙_}
-use mathlib.Core.List.{List, [], _∷_}
+use mathlib.Core.List.{[], _∷_}
 use mathlib.Core.Logic.{_⊎_, inl, inr}
-use native.Mathlib.Nat.{le-refl, sub-zero, sub-self, mod-lt, mul-lt-mul-of-pos-left}
+use native.Mathlib.Nat.{le-refl, sub-zero, sub-self, mod-lt}
 use native.Mathlib.Omega.{arith}
 use lib.Pow.{pow-pos}
 use Rattle.algebra.specs.Ring.{Ring, one-times}
-use Rattle.algebra.specs.Solver.{Expression, v, :1, _:+_, _:-_, _:*_, :neg, ring}
+use Rattle.algebra.specs.Solver.{v, :1, _:+_, _:-_, _:*_, ring}
 use Rattle.algebra.specs.Sum.{pow, pow-zero, pow-suc, times-pow, one-pow}
 use Rattle.fourier.specs.Reverse.{rev}
-use Rattle.fourier.specs.Schedules.{Wing, Buffer, Source, Stage, butterfly, columns, thong, step, run}
-use Rattle.fourier.specs.Sentences.{half-buffer, Receive, butterfly-receive, in-butterfly}
-use Rattle.fourier.specs.Leaves.{leaves1, leaves4, local}
-use Rattle.fourier.specs.Fourier.{fourier, in-frequency, in-time, Decimates, decimates-frequency, sums}
+use Rattle.fourier.specs.Schedules.{Wing, Buffer, Stage, columns, thong, step, run, in-frequency, in-time}
+use Rattle.fourier.specs.Sentences.{Receive, butterfly-receive, in-butterfly}
+use Rattle.fourier.specs.Leaves.{frequency-tabled, leaves1, leaves4, local}
+use Rattle.fourier.specs.Fourier.{arithmetic, fourier, decimates-frequency, sums}
 
--- T1's stages are schedule 1's, the last one first.
-opposite : {n s : ℕ} → s < n → n - suc (n - suc s) ≡ s
-opposite l = omega arith
+-- T1's stages are schedule 1's, the last one first, and the other way round.
+thong-columns : (n s : ℕ) → s < n → thong n (n - suc s) ≡ columns n s
+thong-columns n s l = let e : n - suc (n - suc s) ≡ s = omega arith in rw e
 
-sub-suc-lt : {n s : ℕ} → s < n → n - suc s < n
-sub-suc-lt l = omega arith
+columns-thong : (n s : ℕ) → s < n → columns n (n - suc s) ≡ thong n s
+columns-thong n s l = let e : n - suc (n - suc s) ≡ s = omega arith in rw e
 
 module _ {K : Type 0} (R : Ring K) where
   infixl 65 _⊕_
@@ -30,7 +30,7 @@ module _ {K : Type 0} (R : Ring K) where
 
   -- 1/N times T1 on the table u of the powers x^(-e); half is 1/2.
   abbrev pub inverse : (ℕ → K) → K → ℕ → Buffer K → Buffer K
-  inverse u half n d p = pow R half n ⊗ run (in-time R u) (thong n) n d p
+  inverse u half n d p = pow R half n ⊗ run (in-time (arithmetic R) u) (thong n) n d p
 
   -- ---- a step undone
 
@@ -57,7 +57,7 @@ module _ {K : Type 0} (R : Ring K) where
         e = 2 ^ s * (p % h)
 
         tabled : e < 2 ^ (n - 1)
-        tabled = leaves1 n .tabled s (p % h) 0 l row
+        tabled = frequency-tabled n s (p % h) 0 l row
 
         pair : Receive (columns n s) q (q + h) e q (q + h)
         pair = butterfly-receive (2 ^ s) h (p / h / 2) (p % h) row
@@ -98,18 +98,18 @@ module _ {K : Type 0} (R : Ring K) where
     twice : (a : K) → of 2 ⊗ a ≡ a ⊕ a
     twice a = rw (of-plus 1 1) (ring R (a ∷ []) ((:1 :+ :1) :* v 0) (v 0 :+ v 0) refl)
 
-    time-undoes : Undoes n (in-time R u) (in-frequency R t)
+    time-undoes : Undoes n (in-time (arithmetic R) u) (in-frequency (arithmetic R) t)
     time-undoes = record {
       first = λ e a b l. ap (λ z. a ⊕ b ⊕ z) (cancel e (a ⊕ neg b) l) ∙ ring R (a ∷ b ∷ []) (v 0 :+ v 1 :+ (v 0 :- v 1)) (v 0 :+ v 0) refl ∙ sym (twice a);
       second = λ e a b l. ap (λ z. a ⊕ b ⊕ neg z) (cancel e (a ⊕ neg b) l) ∙ ring R (a ∷ b ∷ []) (v 0 :+ v 1 :- (v 0 :- v 1)) (v 1 :+ v 1) refl ∙ sym (twice b);
       factor = factor;
     }
       where
-        factor : (x e : ℕ) (c a b : K) → in-time R u x e (c ⊗ a) (c ⊗ b) ≡ c ⊗ in-time R u x e a b
+        factor : (x e : ℕ) (c a b : K) → in-time (arithmetic R) u x e (c ⊗ a) (c ⊗ b) ≡ c ⊗ in-time (arithmetic R) u x e a b
         factor zero e c a b = ring R (c ∷ a ∷ b ∷ u e ∷ []) (v 0 :* v 1 :+ v 3 :* (v 0 :* v 2)) (v 0 :* (v 1 :+ v 3 :* v 2)) refl
         factor (suc x) e c a b = ring R (c ∷ a ∷ b ∷ u e ∷ []) (v 0 :* v 1 :- v 3 :* (v 0 :* v 2)) (v 0 :* (v 1 :- v 3 :* v 2)) refl
 
-    frequency-undoes : Undoes n (in-frequency R t) (in-time R u)
+    frequency-undoes : Undoes n (in-frequency (arithmetic R) t) (in-time (arithmetic R) u)
     frequency-undoes = record {
       first = λ e a b l. ring R (a ∷ b ∷ u e ∷ []) (v 0 :+ v 2 :* v 1 :+ (v 0 :- v 2 :* v 1)) (v 0 :+ v 0) refl ∙ sym (twice a);
       second = λ e a b l.
@@ -118,21 +118,24 @@ module _ {K : Type 0} (R : Ring K) where
       factor = factor;
     }
       where
-        factor : (x e : ℕ) (c a b : K) → in-frequency R t x e (c ⊗ a) (c ⊗ b) ≡ c ⊗ in-frequency R t x e a b
+        factor : (x e : ℕ) (c a b : K) → in-frequency (arithmetic R) t x e (c ⊗ a) (c ⊗ b) ≡ c ⊗ in-frequency (arithmetic R) t x e a b
         factor zero e c a b = ring R (c ∷ a ∷ b ∷ []) (v 0 :* v 1 :+ v 0 :* v 2) (v 0 :* (v 1 :+ v 2)) refl
         factor (suc x) e c a b = ring R (c ∷ a ∷ b ∷ t e ∷ []) (v 3 :* (v 0 :* v 1 :- v 0 :* v 2)) (v 0 :* (v 3 :* (v 1 :- v 2))) refl
 
     -- ---- the whole schedule undone, both ways
 
-    columns-thong : (d : Buffer K) (p : ℕ) → run (in-time R u) (thong n) n (run (in-frequency R t) (columns n) n d) p ≡ pow R (of 2) n ⊗ d p
+    back-forth : (d : Buffer K) (p : ℕ) → run (in-time (arithmetic R) u) (thong n) n (run (in-frequency (arithmetic R) t) (columns n) n d) p ≡ pow R (of 2) n ⊗ d p
     unfolding run
-    columns-thong d p =
-        rw sub-self at (stages-undone time-undoes (columns n) (thong n) (λ s l d p. rw (opposite l) (rw (opposite l) at (columns-undone time-undoes (sub-suc-lt l) d p))) d n (le-refl n) p)
+    back-forth d p =
+        rw sub-self at (stages-undone time-undoes (columns n) (thong n) (λ s l d p. rw (columns-thong n s l) (rw (columns-thong n s l) at (columns-undone time-undoes (before l) d p))) d n (le-refl n) p)
+      where
+        before : {s : ℕ} → s < n → n - suc s < n
+        before l = omega arith
 
-    thong-columns : (d : Buffer K) (p : ℕ) → run (in-frequency R t) (columns n) n (run (in-time R u) (thong n) n d) p ≡ pow R (of 2) n ⊗ d p
+    forth-back : (d : Buffer K) (p : ℕ) → run (in-frequency (arithmetic R) t) (columns n) n (run (in-time (arithmetic R) u) (thong n) n d) p ≡ pow R (of 2) n ⊗ d p
     unfolding run
-    thong-columns d p =
-        rw sub-self at (stages-undone frequency-undoes (thong n) (columns n) (λ s l d p. rw (opposite l) (columns-undone frequency-undoes l d p)) d n (le-refl n) p)
+    forth-back d p =
+        rw sub-self at (stages-undone frequency-undoes (thong n) (columns n) (λ s l d p. rw (thong-columns n s l) (columns-undone frequency-undoes l d p)) d n (le-refl n) p)
 
     -- ---- the inverse
 
@@ -140,21 +143,21 @@ module _ {K : Type 0} (R : Ring K) where
       whole : (a : K) → pow R half n ⊗ (pow R (of 2) n ⊗ a) ≡ a
       whole a = sym (times-assoc (pow R half n) (pow R (of 2) n) a) ∙ rw (← times-pow R half (of 2) n, halved, one-pow) (one-times R a)
 
-      pub inverse-columns : (d : Buffer K) (p : ℕ) → inverse u half n (run (in-frequency R t) (columns n) n d) p ≡ d p
-      inverse-columns d p = ap (λ z. pow R half n ⊗ z) (columns-thong d p) ∙ whole (d p)
+      pub inverse-columns : (d : Buffer K) (p : ℕ) → inverse u half n (run (in-frequency (arithmetic R) t) (columns n) n d) p ≡ d p
+      inverse-columns d p = ap (λ z. pow R half n ⊗ z) (back-forth d p) ∙ whole (d p)
 
-      pub columns-inverse : (d : Buffer K) (p : ℕ) → run (in-frequency R t) (columns n) n (inverse u half n d) p ≡ d p
-      columns-inverse d p = run-factor frequency-undoes (columns n) (pow R half n) (run (in-time R u) (thong n) n d) n p ∙ rw (thong-columns d p) (whole (d p))
+      pub columns-inverse : (d : Buffer K) (p : ℕ) → run (in-frequency (arithmetic R) t) (columns n) n (inverse u half n d) p ≡ d p
+      columns-inverse d p = run-factor frequency-undoes (columns n) (pow R half n) (run (in-time (arithmetic R) u) (thong n) n d) n p ∙ rw (forth-back d p) (whole (d p))
 
-  module _ (x : K) (n : ℕ) (root : pow R x (2 ^ (n - 1)) ≡ neg (of 1)) (u : ℕ → K) (inverses : (e : ℕ) → e < 2 ^ (n - 1) → u e ⊗ pow R x e ≡ of 1) (half : K) (halved : half ⊗ of 2 ≡ of 1) where
+  module _ (x : K) (n : ℕ) (turn : pow R x (2 ^ (n - 1)) ≡ neg (of 1)) (u : ℕ → K) (inverses : (e : ℕ) → e < 2 ^ (n - 1) → u e ⊗ pow R x e ≡ of 1) (half : K) (halved : half ⊗ of 2 ≡ of 1) where
     -- Of the sums, in the order in which schedules 1, 2, 3 and 5 leave them, the inverse gives the samples back.
     pub inverse-sums : (A F : Buffer K) → ((p : ℕ) → p < 2 ^ n → F p ≡ fourier R x (2 ^ n) A (rev n p)) → (p : ℕ) → p < 2 ^ n → inverse u half n F p ≡ A p
     inverse-sums A F given p h =
         ap (λ z. pow R half n ⊗ z)
-        (local (leaves4 n) K (in-time R u) F (run (in-frequency R (pow R x)) (columns n) n A) (λ q l. given q l ∙ sym (sums R x n root (decimates-frequency R x n root) (leaves1 n) A q l)) p h)
+        (local (leaves4 n) K (in-time (arithmetic R) u) F (run (in-frequency (arithmetic R) (pow R x)) (columns n) n A) (λ q l. given q l ∙ sym (sums R x n turn (decimates-frequency R x n turn) (leaves1 n) A q l)) p h)
         ∙ inverse-columns (pow R x) u n inverses half halved A p
 
     -- And the sums of what the inverse makes of any values are those values.
     pub sums-inverse : (F : Buffer K) (p : ℕ) → p < 2 ^ n → fourier R x (2 ^ n) (inverse u half n F) (rev n p) ≡ F p
     sums-inverse F p h =
-        sym (sums R x n root (decimates-frequency R x n root) (leaves1 n) (inverse u half n F) p h) ∙ columns-inverse (pow R x) u n inverses half halved F p
+        sym (sums R x n turn (decimates-frequency R x n turn) (leaves1 n) (inverse u half n F) p h) ∙ columns-inverse (pow R x) u n inverses half halved F p

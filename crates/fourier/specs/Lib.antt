@@ -1,4 +1,5 @@
 -- The schedules, and what they compute.
+pub mod Sizes
 pub mod Reverse
 pub mod Schedules
 pub mod Sentences

@@ -1,21 +1,20 @@
 -- The schedules on numbers below m with a table, and the sums and the inverse in plain numbers.
-use Prim.Native.Nat.{ℕ, zero, suc, _+_, _-_, _*_, _/_, _%_, _^_, _<_, _≤_}
+use Prim.Native.Nat.{ℕ, _+_, _-_, _*_, _/_, _%_, _^_, _<_}
 use mathlib.Core.Path.{_≡_, refl, sym, ap, _∙_}
-use mathlib.Core.List.{List, []}
-use native.Mathlib.Nat.{le-refl, le-of-lt, mod-lt, mod-eq-of-lt, sub-zero, mod-self, sub-add-cancel, two-pow-succ}
+use mathlib.Core.List.{[]}
+use native.Mathlib.Nat.{le-of-lt, mod-lt, sub-add-cancel}
 use native.Mathlib.Omega.{arith}
-use lib.Pow.{pow-pos}
-use Rattle.algebra.specs.Ring.{Ring, neg-times, neg-neg, one-times}
-use Rattle.algebra.specs.Solver.{Expression, :1, _:*_, :neg, ring}
-use Rattle.algebra.specs.Sum.{pow, sum, total, pow-plus, pow-mod, of-pow, of-total, sum-cong}
-use Rattle.algebra.specs.Modulo.{Mod, modulo, of-number, of-mod, of-minus, of-modulus, of-injective}
+use Rattle.algebra.specs.Ring.{Ring}
+use Rattle.algebra.specs.Solver.{:1, _:*_, :neg, ring}
+use Rattle.algebra.specs.Sum.{pow, total, pow-plus, pow-mod, of-pow, of-total, sum-cong}
+use Rattle.algebra.specs.Modulo.{Mod, modulo, of-mod, of-minus, of-modulus, of-injective}
 use Rattle.fourier.specs.Reverse.{rev}
-use Rattle.fourier.specs.Schedules.{Wing, Buffer, thong, run}
+use Rattle.fourier.specs.Schedules.{Wing, Buffer, Schedule, schedule1, schedule2, schedule3, schedule4, schedule5, Arithmetic, in-frequency, in-time}
 use Rattle.fourier.specs.Array.{Exponents, frequency, time}
-use Rattle.fourier.specs.Leaves.{Schedule, Leaves, Keeps, related, leaves4}
-use Rattle.fourier.specs.Fourier.{fourier, in-frequency, in-time, Decimates, decimates-frequency, decimates-time, sums}
+use Rattle.fourier.specs.Leaves.{Leaves, Keeps, Carries, frequency-keeps, time-keeps, related, leaves1, leaves2, leaves3, leaves4, leaves5}
+use Rattle.fourier.specs.Fourier.{arithmetic, fourier, Decimates, decimates-frequency, decimates-time, sums}
 use Rattle.fourier.specs.Inverse.{inverse, inverse-sums, sums-inverse}
-use Rattle.fourier.specs.Table.{root, Accepted, lookup, back, root-pow, lookup-pow}
+use Rattle.fourier.specs.Table.{root, Accepted, lookup, back, lookup-below, entry-below, root-pow, lookup-pow}
 
 -- ---- definitions
 
@@ -33,62 +32,57 @@ minus-mod m a b = (a + (m - b)) % m
 abbrev pub times-mod : ℕ → ℕ → ℕ → ℕ
 times-mod m a b = a * b % m
 
--- The step of schedules 1, 2 and 3: the sum, and x^e times the difference; t e is the residue x^e.
-abbrev pub frequency-mod : ℕ → (ℕ → ℕ) → Wing ℕ
-frequency-mod m t zero e a b = plus-mod m a b
-frequency-mod m t (suc x) e a b = times-mod m (t e) (minus-mod m a b)
+abbrev pub arithmetic-mod : ℕ → Arithmetic ℕ
+arithmetic-mod m = record { plus = plus-mod m; minus = minus-mod m; times = times-mod m }
 
--- The step of schedules 4 and 5: the second times x^e; then sum and difference.
-abbrev pub time-mod : ℕ → (ℕ → ℕ) → Wing ℕ
-time-mod m t zero e a b = plus-mod m a (times-mod m (t e) b)
-time-mod m t (suc x) e a b = minus-mod m a (times-mod m (t e) b)
+-- The steps over residues, with a table t of h = N/2 entries: of schedules 1, 2 and 3; of 4 and 5; and of the inverse.
+abbrev pub frequency-mod : ℕ → ℕ → (ℕ → ℕ) → Wing ℕ
+frequency-mod m h t = in-frequency (arithmetic-mod m) (lookup m h t)
+
+abbrev pub time-mod : ℕ → ℕ → (ℕ → ℕ) → Wing ℕ
+time-mod m h t = in-time (arithmetic-mod m) (lookup m h t)
+
+abbrev pub back-mod : ℕ → ℕ → (ℕ → ℕ) → Wing ℕ
+back-mod m h t = in-time (arithmetic-mod m) (back m h t)
 
 -- The inverse: T1 with x^(-e), and "the factor 1/N is ((m + 1)/2)^n modulo m".
 unfoldable pub inverse-mod : ℕ → ℕ → (ℕ → ℕ) → Buffer ℕ → Buffer ℕ
-inverse-mod m n t d p = times-mod m (((m + 1) / 2) ^ n % m) (run (time-mod m (back m (2 ^ (n - 1)) t)) (thong n) n d p)
+inverse-mod m n t d p = times-mod m (((m + 1) / 2) ^ n % m) (schedule4 n ℕ (back-mod m (2 ^ (n - 1)) t) d p)
 
 -- ---- numbers that stand for residues
 
 module _ (m : ℕ) (pos : 0 < m) where
   infixl 65 _⊕_
   infixl 70 _⊗_
-  open Ring (modulo m pos) using (_⊕_, _⊗_, neg, of, of-plus, of-times, plus-zero, times-one)
+  open Ring (modulo m pos) using (_⊕_, _⊗_, neg, of, of-plus, of-times, plus-zero)
 
   -- The number v is below m, and u is its residue.
   pub record Stands (v : ℕ) (u : Mod m) : Type 0 where
     pub same : of v ≡ u
     pub below : v < m
 
+  stands-self : {a : ℕ} → a < m → Stands a (of a)
+  stands-self l = record { same = refl; below = l }
+
   stands-mod : (v : ℕ) {u : Mod m} → of v ≡ u → Stands (v % m) u
   stands-mod v h = record { same = of-mod m pos v ∙ h; below = mod-lt v pos }
 
-  plus-stands : {a b : ℕ} {u v : Mod m} → Stands a u → Stands b v → Stands (plus-mod m a b) (u ⊕ v)
-  plus-stands {a} {b} h l = stands-mod (a + b) (rw (of-plus, h .same, l .same))
+  -- One residue, one number below m.
+  stands-same : {a b : ℕ} {u : Mod m} → Stands a u → Stands b u → a ≡ b
+  stands-same h l = of-injective m pos (h .below) (l .below) (h .same ∙ sym (l .same))
 
-  minus-stands : {a b : ℕ} {u v : Mod m} → Stands a u → Stands b v → Stands (minus-mod m a b) (u ⊕ neg v)
-  minus-stands {a} {b} h l = stands-mod (a + (m - b)) (rw (of-plus, of-minus m pos b (le-of-lt (l .below)), h .same, l .same))
-
-  times-stands : (a : ℕ) {b : ℕ} {u v : Mod m} → of a ≡ u → Stands b v → Stands (times-mod m a b) (u ⊗ v)
-  times-stands a {b} h l = stands-mod (a * b) (rw (of-times, h, l .same))
+  carries : Carries Stands (arithmetic-mod m) (arithmetic (modulo m pos))
+  carries = record {
+    plus = λ {a} {c} h l. stands-mod (a + c) (rw (of-plus, h .same, l .same));
+    minus = λ {a} {c} h l. stands-mod (a + (m - c)) (rw (of-plus, of-minus m pos c (le-of-lt (l .below)), h .same, l .same));
+    times = λ {a} {c} h l. stands-mod (a * c) (rw (of-times, h .same, l .same));
+  }
 
   fourier-stands : (x N : ℕ) (A : ℕ → ℕ) (j : ℕ) → Stands (fourier-mod m x N A j) (fourier (modulo m pos) (of x) N (λ k. of (A k)) j)
   unfolding fourier-mod fourier
   fourier-stands x N A j =
       stands-mod (total N (λ k. A k * x ^ (j * k)))
       (of-total (modulo m pos) N (λ k. A k * x ^ (j * k)) ∙ sum-cong (modulo m pos) N (λ k l. of-times (A k) (x ^ (j * k)) ∙ ap (λ z. of (A k) ⊗ z) (of-pow (modulo m pos) x (j * k))))
-
-  -- One residue, one number below m.
-  stands-same : {a b : ℕ} {u : Mod m} → Stands a u → Stands b u → a ≡ b
-  stands-same h l = of-injective m pos (h .below) (l .below) (h .same ∙ sym (l .same))
-
-  module _ (n : ℕ) (t : ℕ → ℕ) (u : ℕ → Mod m) (table : (e : ℕ) → e < 2 ^ (n - 1) → of (t e) ≡ u e) where
-    frequency-keeps : Keeps n (λ s. Stands) (frequency-mod m t) (in-frequency (modulo m pos) u)
-    frequency-keeps s zero e a c b d l h g = plus-stands h g
-    frequency-keeps s (suc x) e a c b d l h g = times-stands (t e) (table e l) (minus-stands h g)
-
-    time-keeps : Keeps n (λ s. Stands) (time-mod m t) (in-time (modulo m pos) u)
-    time-keeps s zero e a c b d l h g = plus-stands h (times-stands (t e) (table e l) g)
-    time-keeps s (suc x) e a c b d l h g = minus-stands h (times-stands (t e) (table e l) g)
 
   -- ---- with an accepted table, for N = 2^n
 
@@ -102,44 +96,51 @@ module _ (m : ℕ) (pos : 0 < m) where
     powers : ℕ → Mod m
     powers = pow (modulo m pos) (of the-root)
 
-    looked-up : (e : ℕ) → e < 2 ^ (n - 1) → of (lookup m (2 ^ (n - 1)) t e) ≡ powers e
-    unfolding powers
-    looked-up e l = lookup-pow m (2 ^ (n - 1)) pos t accepted e (omega arith)
+    looked-up : (e : ℕ) → Stands (lookup m (2 ^ (n - 1)) t e) (of (lookup m (2 ^ (n - 1)) t e))
+    looked-up e = stands-self (lookup-below m (2 ^ (n - 1)) t pos (entry-below m (2 ^ (n - 1)) pos t accepted) e)
 
-    -- A step on numbers that does what some step of a decimation does on residues.
+    table : (e : ℕ) → e < 2 ^ (n - 1) → Stands (lookup m (2 ^ (n - 1)) t e) (powers e)
+    unfolding powers
+    table e l = record { same = lookup-pow m (2 ^ (n - 1)) pos t accepted e (omega arith); below = looked-up e .below }
+
+    -- A step on numbers that does what a step of a decimation does on residues.
     pub record Computes (e : Exponents) (w : Wing ℕ) : Type 0 where
       pub wing : Wing (Mod m)
       pub keeps : Keeps n (λ s. Stands) w wing
       pub decimates : Decimates (modulo m pos) (of the-root) n turn e wing
 
-    pub frequency-computes : Computes frequency (frequency-mod m (lookup m (2 ^ (n - 1)) t))
+    pub frequency-computes : Computes frequency (frequency-mod m (2 ^ (n - 1)) t)
     unfolding powers
-    frequency-computes = record {
-      wing = in-frequency (modulo m pos) powers;
-      keeps = frequency-keeps n (lookup m (2 ^ (n - 1)) t) powers looked-up;
-      decimates = decimates-frequency (modulo m pos) (of the-root) n turn;
-    }
+    frequency-computes = record { wing = _; keeps = frequency-keeps carries n _ powers table; decimates = decimates-frequency (modulo m pos) (of the-root) n turn }
 
-    pub time-computes : Computes (time n) (time-mod m (lookup m (2 ^ (n - 1)) t))
+    pub time-computes : Computes (time n) (time-mod m (2 ^ (n - 1)) t)
     unfolding powers
-    time-computes = record {
-      wing = in-time (modulo m pos) powers;
-      keeps = time-keeps n (lookup m (2 ^ (n - 1)) t) powers looked-up;
-      decimates = decimates-time (modulo m pos) (of the-root) n turn;
-    }
+    time-computes = record { wing = _; keeps = time-keeps carries n _ powers table; decimates = decimates-time (modulo m pos) (of the-root) n turn }
 
-    -- A number below m stands for its own residue.
-    stands-self : {a : ℕ} → a < m → Stands a (of a)
-    stands-self l = record { same = refl; below = l }
+    module _ (A : Buffer ℕ) (small : (p : ℕ) → p < 2 ^ n → A p < m) (p : ℕ) (h : p < 2 ^ n) where
+      pub sums-mod : {e : Exponents} {w : Wing ℕ} {order index : ℕ → ℕ} {f : Schedule} → Computes e w → Leaves e n order index f →
+          f ℕ w A p ≡ fourier-mod m the-root (2 ^ n) (λ i. A (order i)) (index p)
+      sums-mod {order = order} {index = index} computes leaves =
+          stands-same
+          (related n (λ s. Stands) (computes .keeps) leaves A (λ q. of (A q)) (λ q l. stands-self (small q l)) p h)
+          (rw (sums (modulo m pos) (of the-root) n turn (computes .decimates) leaves (λ q. of (A q)) p h)
+          (fourier-stands the-root (2 ^ n) (λ i. A (order i)) (index p)))
 
-    -- Every schedule leaves the sums: those in order f(rev(p)) at place p, schedule 4 of samples in reversed order f(p).
-    pub sums-mod : {e : Exponents} {w : Wing ℕ} {order : ℕ → ℕ} {f : Schedule} → Computes e w → Leaves e n order f → (A : Buffer ℕ) → ((p : ℕ) → p < 2 ^ n → A p < m) →
-        (p : ℕ) → p < 2 ^ n → f ℕ w A p ≡ fourier-mod m the-root (2 ^ n) (λ i. A (order i)) (rev n (order p))
-    sums-mod {order = order} computes leaves A small p h =
-        stands-same
-        (related n (λ s. Stands) (computes .keeps) leaves A (λ q. of (A q)) (λ q l. stands-self (small q l)) p h)
-        (rw (sums (modulo m pos) (of the-root) n turn (computes .decimates) leaves (λ q. of (A q)) p h)
-        (fourier-stands the-root (2 ^ n) (λ i. A (order i)) (rev n (order p))))
+      -- What each schedule leaves at place p.
+      pub schedule1-sums : schedule1 n ℕ (frequency-mod m (2 ^ (n - 1)) t) A p ≡ fourier-mod m the-root (2 ^ n) A (rev n p)
+      schedule1-sums = sums-mod frequency-computes (leaves1 n)
+
+      pub schedule2-sums : schedule2 n ℕ (frequency-mod m (2 ^ (n - 1)) t) A p ≡ fourier-mod m the-root (2 ^ n) A (rev n p)
+      schedule2-sums = sums-mod frequency-computes (leaves2 n)
+
+      pub schedule3-sums : schedule3 n ℕ (frequency-mod m (2 ^ (n - 1)) t) A p ≡ fourier-mod m the-root (2 ^ n) A (rev n p)
+      schedule3-sums = sums-mod frequency-computes (leaves3 n)
+
+      pub schedule4-sums : schedule4 n ℕ (time-mod m (2 ^ (n - 1)) t) A p ≡ fourier-mod m the-root (2 ^ n) (λ i. A (rev n i)) p
+      schedule4-sums = sums-mod time-computes (leaves4 n)
+
+      pub schedule5-sums : schedule5 n ℕ (time-mod m (2 ^ (n - 1)) t) A p ≡ fourier-mod m the-root (2 ^ n) A (rev n p)
+      schedule5-sums = sums-mod time-computes (leaves5 n)
 
     -- ---- the inverse
 
@@ -161,10 +162,10 @@ module _ (m : ℕ) (pos : 0 < m) where
 
       inverse-stands : (d : Buffer ℕ) → ((p : ℕ) → p < 2 ^ n → d p < m) → (p : ℕ) → p < 2 ^ n →
           Stands (inverse-mod m n t d p) (inverse (modulo m pos) (λ e. of (back m (2 ^ (n - 1)) t e)) (of ((m + 1) / 2)) n (λ q. of (d q)) p)
-      unfolding inverse-mod
+      unfolding inverse-mod back
       inverse-stands d small p h =
-          times-stands (((m + 1) / 2) ^ n % m) (of-mod m pos (((m + 1) / 2) ^ n) ∙ of-pow (modulo m pos) ((m + 1) / 2) n)
-          (related n (λ s. Stands) (time-keeps n (back m (2 ^ (n - 1)) t) (λ e. of (back m (2 ^ (n - 1)) t e)) (λ e l. refl)) (leaves4 n) d (λ q. of (d q)) (λ q l. stands-self (small q l)) p h)
+          carries .times (stands-mod (((m + 1) / 2) ^ n) (of-pow (modulo m pos) ((m + 1) / 2) n))
+          (related n (λ s. Stands) (time-keeps carries n _ _ (λ e l. looked-up _)) (leaves4 n) d (λ q. of (d q)) (λ q l. stands-self (small q l)) p h)
 
       -- Of the sums that schedules 1, 2, 3 and 5 leave, the inverse gives the samples back.
       pub inverse-sums-mod : (A F : Buffer ℕ) → ((p : ℕ) → p < 2 ^ n → A p < m) → ((p : ℕ) → p < 2 ^ n → F p ≡ fourier-mod m the-root (2 ^ n) A (rev n p)) →

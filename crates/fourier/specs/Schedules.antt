@@ -66,10 +66,53 @@ module _ {C : Type 0} (w : Wing C) where
   run σ zero d = d
   run σ (suc s) d = step (σ s) (run σ s d)
 
-  -- Schedule 3, by halves: the first stage of schedule 1 on 2^(m+1) places, then the same on half p / 2^m by itself, with the
-  -- stride into the table doubled.
-  unfoldable pub halves : ℕ → ℕ → Buffer C → Buffer C
-  halves zero stride d p = d p
-  halves (suc m) stride d p =
-      let h = 2 ^ m in
-      halves m (stride + stride) (λ q. step (butterfly stride h) d (p / h * h + q)) (p % h)
+-- Exponents that count c times.
+abbrev pub strided : {C : Type 0} → ℕ → Wing C → Wing C
+strided c w x e = w x (c * e)
+
+-- Schedule 3, by halves: the first stage of schedule 1 on 2^(n+1) places, then the same on half p / 2^n by itself, where exponents
+-- count double.
+unfoldable pub halves : {C : Type 0} → Wing C → ℕ → Buffer C → Buffer C
+halves w zero d p = d p
+halves w (suc n) d p =
+    let h = 2 ^ n in
+    halves (strided 2 w) n (λ q. step w (butterfly 1 h) d (p / h * h + q)) (p % h)
+
+-- ---- whole schedules of N = 2^n places, by document 01's numbers: for any carrier and step, from the buffer before to the buffer behind
+
+abbrev pub Schedule : Type 1
+Schedule = (C : Type 0) → Wing C → Buffer C → Buffer C
+
+abbrev pub schedule1 : ℕ → Schedule
+schedule1 n C w = run w (columns n) n
+
+abbrev pub schedule2 : ℕ → Schedule
+schedule2 n C w = run w (shuffle n) n
+
+abbrev pub schedule3 : ℕ → Schedule
+schedule3 n C w = halves w n
+
+abbrev pub schedule4 : ℕ → Schedule
+schedule4 n C w = run w (thong n) n
+
+abbrev pub schedule5 : ℕ → Schedule
+schedule5 n C w = run w (pease n) n
+
+-- ---- steps
+
+-- What the steps of document 01 need of a carrier.
+pub record Arithmetic (C : Type 0) : Type 0 where
+  pub plus : C → C → C
+  pub minus : C → C → C
+  pub times : C → C → C
+
+module _ {C : Type 0} (A : Arithmetic C) (t : ℕ → C) where
+  -- Schedules 1, 2 and 3: the sum, and x^e times the difference; t e is x^e.
+  abbrev pub in-frequency : Wing C
+  in-frequency zero e a b = A .plus a b
+  in-frequency (suc x) e a b = A .times (t e) (A .minus a b)
+
+  -- Schedules 4 and 5: the second is first multiplied by x^e; then sum and difference.
+  abbrev pub in-time : Wing C
+  in-time zero e a b = A .plus a (A .times (t e) b)
+  in-time (suc x) e a b = A .minus a (A .times (t e) b)

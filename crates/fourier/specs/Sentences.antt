@@ -2,23 +2,13 @@
 use Prim.Native.Nat.{ℕ, zero, suc, _+_, _-_, _*_, _/_, _%_, _^_, _<_}
 use mathlib.Core.Path.{_≡_, refl, sym, ap, _∙_}
 use mathlib.Core.Logic.{_⊎_, inl, inr}
-use native.Mathlib.Nat.{add-zero, mul-add-mod-self-right, mul-add-div-right, zero-mul, zero-add, one-mul, two-pow-succ, pow-suc, add-mod-left, add-div-left, mod-eq-of-lt, div-eq-of-lt, mod-lt, mul-pos, div-add-mod', div-div-eq-div-mul, div-lt-iff-lt-mul, sub-zero}
+use native.Mathlib.Nat.{add-zero, mul-add-mod-self-right, mul-add-div-right, mod-lt, mul-pos, div-add-mod', div-div-eq-div-mul, div-lt-iff-lt-mul}
 use native.Mathlib.Omega.{arith}
 use lib.Arith.{digits-div, digits-mod}
-use lib.Pow.{pow-pos, pow-add}
+use lib.Pow.{pow-pos}
+use Rattle.fourier.specs.Sizes.{rows, two-halves, half-buffer}
 use Rattle.fourier.specs.Reverse.{rev}
-use Rattle.fourier.specs.Schedules.{Wing, Buffer, Source, from, Stage, butterfly, shuffled, columns, shuffle, thong, pease, step, halves}
-
--- ---- sizes: a stage halves the rows, and N/2 is what is left of them in all the columns
-
-pub rows : {n s : ℕ} → s < n → 2 ^ (n - s) ≡ 2 ^ (n - suc s) + 2 ^ (n - suc s)
-rows {n} {s} l = let e : n - s ≡ suc (n - suc s) = omega arith in rw e (two-pow-succ (n - suc s))
-
-pub two-halves : {n s : ℕ} → s < n → 2 ^ n ≡ 2 ^ (n - 1) + 2 ^ (n - 1)
-two-halves {n} l = let e : n ≡ suc (n - 1) = omega arith in ap (λ (z : ℕ). 2 ^ z) e ∙ two-pow-succ (n - 1)
-
-pub half-buffer : {n s : ℕ} → s < n → 2 ^ (n - suc s) * 2 ^ s ≡ 2 ^ (n - 1)
-half-buffer {n} {s} l = let e : n - 1 ≡ n - suc s + s = omega arith in rw (e, pow-add)
+use Rattle.fourier.specs.Schedules.{Source, from, Stage, butterfly, shuffled, columns, shuffle, thong, pease}
 
 -- ---- the sentences
 
@@ -56,7 +46,13 @@ ByPease n t = Shuffles n (λ l. 2 ^ (n - suc t) * rev t (l % 2 ^ t))
 
 -- ---- the pairs of a stage cover each place once
 
--- Place p is part p / h % 2 of pair p % h in block p / h / 2, and of no other pair.
+-- Two pairs that a place belongs to are one, and it has one part in it.
+pub once : {x e a b x′ e′ a′ b′ : ℕ} (σ : Stage) (p : ℕ) → σ p ≡ from x e a b → σ p ≡ from x′ e′ a′ b′ → (x ≡ x′) × (e ≡ e′) × (a ≡ a′) × (b ≡ b′)
+once σ p h l =
+    let same = sym h ∙ l in
+    (ap (λ (c : Source). c .part) same, ap (λ (c : Source). c .exponent) same, ap (λ (c : Source). c .first) same, ap (λ (c : Source). c .second) same)
+
+-- In place: p is part p / h % 2 of pair p % h in block p / h / 2.
 pub pairs-cover : (h p : ℕ) → p ≡ p / h / 2 * (h + h) + p / h % 2 * h + p % h
 pairs-cover h p =
     let j : p / h * h ≡ (p / h / 2 * 2 + p / h % 2) * h = ap (λ (z : ℕ). z * h) (omega arith) in
@@ -69,28 +65,6 @@ butterfly-pair stride h j i x hi hx =
     let bit : (j + j + x) % 2 ≡ x = omega arith in
     let half : (j + j + x) / 2 ≡ j = omega arith in
     rw (place, digits-div, digits-mod, bit, half)
-
--- Every block is paired alike.
-pub butterfly-shift : (stride h k p : ℕ) → 0 < h →
-    butterfly stride h (k * (h + h) + p) ≡ (let f = butterfly stride h p in from (f .part) (f .exponent) (k * (h + h) + f .first) (k * (h + h) + f .second))
-unfolding butterfly
-butterfly-shift stride h k p pos =
-    let i = p % h in
-    let j = p / h in
-    let twice : k * (h + h) + p ≡ (k + k) * h + p = omega arith in
-    let bit : (k + k + j) % 2 ≡ j % 2 = omega arith in
-    let half : (k + k + j) / 2 ≡ k + j / 2 = omega arith in
-    let first : (k + j / 2) * (h + h) + i ≡ k * (h + h) + (j / 2 * (h + h) + i) = omega arith in
-    let second : k * (h + h) + (j / 2 * (h + h) + i) + h ≡ k * (h + h) + (j / 2 * (h + h) + i + h) = omega arith in
-    rw (twice, mul-add-mod-self-right, mul-add-div-right pos, bit, half, first, second)
-
-pub pairs-once : (h j i x j′ i′ x′ : ℕ) → i < h → i′ < h → x < 2 → x′ < 2 → j * (h + h) + x * h + i ≡ j′ * (h + h) + x′ * h + i′ → (j ≡ j′) × (x ≡ x′) × (i ≡ i′)
-pairs-once h j i x j′ i′ x′ hi hi′ hx hx′ e =
-    let same = sym (butterfly-pair 1 h j i x hi hx) ∙ ap (butterfly 1 h) e ∙ butterfly-pair 1 h j′ i′ x′ hi′ hx′ in
-    let firsts : j * (h + h) + i ≡ j′ * (h + h) + i′ = ap (λ (c : Source). c .first) same in
-    let block : (j * (h + h) + i) / (h + h) ≡ (j′ * (h + h) + i′) / (h + h) = ap (λ (z : ℕ). z / (h + h)) firsts in
-    let row : 1 * i ≡ 1 * i′ = ap (λ (c : Source). c .exponent) same in
-    (sym (digits-div j (omega arith)) ∙ block ∙ digits-div j′ (omega arith), ap (λ (c : Source). c .part) same, omega arith)
 
 -- ---- the stages are as they say
 
@@ -132,7 +106,7 @@ thong-says n t l h bit =
 pub pease-says : (n t : ℕ) → ByPease n t (pease n t)
 pease-says n t = shuffled-says n _
 
--- ---- and only they are
+-- ---- and only they are, since the pairs cover each place
 
 alike : {σ τ : Stage} {p q e a b : ℕ} → Receive σ p q e a b → Receive τ p q e a b → (z : ℕ) → (z ≡ p) ⊎ (z ≡ q) → σ z ≡ τ z
 alike h l z (inl c) = rw c (h .sum ∙ sym (l .sum))
@@ -162,14 +136,14 @@ columns-only n s l σ says p hp =
     let h = 2 ^ (n - suc s) in
     let j = p / h / 2 in
     let column : j < 2 ^ s =
-    rw div-div-eq-div-mul (div-lt-iff-lt-mul (mul-pos {n = 2} (pow-pos (n - suc s)) (omega arith)) .1 (omega (arith, half-buffer l, two-halves l))) in
+    rw div-div-eq-div-mul (div-lt-iff-lt-mul (mul-pos {n = 2} (pow-pos (n - suc s)) (omega arith)) .1 (omega (arith, half-buffer l, two-halves n (omega arith)))) in
     let place : 2 ^ (n - s) * j + p % h ≡ j * (h + h) + p % h = rw (rows l) (omega arith) in
     let row : p % h < h = mod-lt p (pow-pos (n - suc s)) in
     alike (says j (p % h) column row) (columns-says n s l j (p % h) column row) p (rw place (in-butterfly h p))
 
 shuffled-only : (n s : ℕ) → s < n → (e : ℕ → ℕ) (σ : Stage) → Shuffles n e σ → (p : ℕ) → p < 2 ^ n → σ p ≡ shuffled (2 ^ (n - 1)) e p
 shuffled-only n s l e σ says p hp =
-    let k : p / 2 < 2 ^ (n - 1) = omega (arith, two-halves l) in
+    let k : p / 2 < 2 ^ (n - 1) = omega (arith, two-halves n (omega arith)) in
     alike (says (p / 2) k) (shuffled-says n e (p / 2) k) p (in-shuffle p)
 
 pub shuffle-only : (n s : ℕ) → s < n → (σ : Stage) → ByShuffle n s σ → (p : ℕ) → p < 2 ^ n → σ p ≡ shuffle n s p
@@ -187,3 +161,18 @@ thong-only n t l σ says p hp =
 
 pub pease-only : (n t : ℕ) → t < n → (σ : Stage) → ByPease n t σ → (p : ℕ) → p < 2 ^ n → σ p ≡ pease n t p
 pease-only n t l = shuffled-only n t l _
+
+-- ---- every block is paired alike
+
+pub butterfly-shift : (stride h k p : ℕ) → 0 < h →
+    butterfly stride h (k * (h + h) + p) ≡ (let f = butterfly stride h p in from (f .part) (f .exponent) (k * (h + h) + f .first) (k * (h + h) + f .second))
+unfolding butterfly
+butterfly-shift stride h k p pos =
+    let i = p % h in
+    let j = p / h in
+    let twice : k * (h + h) + p ≡ (k + k) * h + p = omega arith in
+    let bit : (k + k + j) % 2 ≡ j % 2 = omega arith in
+    let half : (k + k + j) / 2 ≡ k + j / 2 = omega arith in
+    let first : (k + j / 2) * (h + h) + i ≡ k * (h + h) + (j / 2 * (h + h) + i) = omega arith in
+    let second : k * (h + h) + (j / 2 * (h + h) + i) + h ≡ k * (h + h) + (j / 2 * (h + h) + i + h) = omega arith in
+    rw (twice, mul-add-mod-self-right, mul-add-div-right pos, bit, half, first, second)
