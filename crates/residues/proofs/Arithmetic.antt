@@ -9,7 +9,7 @@ use lib.ListN.{length}
 use lib.Dec.{lit<, ltb}
 use Rattle.answer.specs.Lists.{at}
 use Rattle.fourier.specs.Table.{lookup}
-use Rattle.residues.specs.Lists.{Below}
+use Rattle.residues.specs.Judgement.{Below}
 
 -- A number below m is itself modulo m.
 pub mod-small : {s m : ℕ} → s < m → s ≡ s % m

@@ -1,3 +1,3 @@
 -- Laws that serve proofs of code.
 pub mod Arithmetic
-pub mod Judging
+pub mod Rules

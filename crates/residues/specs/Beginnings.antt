@@ -9,12 +9,11 @@ use native.Mathlib.Omega.{arith}
 use lib.Pow.{pow-add, pow-mono}
 use lib.ListN.{take}
 use lib.Seq.{getD-take}
-use lib.Dec.{ltb, eqb}
 use borrow.Author.Tests.{lt-ltb, eq-eqb, ne-eqb}
 use Rattle.algebra.specs.Ring.{Ring}
-use Rattle.algebra.specs.Solver.{Expression, :1, _:*_, :neg, ring}
+use Rattle.algebra.specs.Solver.{:1, _:*_, :neg, ring}
 use Rattle.algebra.specs.Sum.{pow, pow-zero, pow-plus, pow-times, one-pow}
-use Rattle.algebra.specs.Modulo.{Mod, modulo, of-minus, of-injective}
+use Rattle.algebra.specs.Modulo.{modulo, of-minus, of-injective}
 use Rattle.answer.specs.Lists.{at}
 use Rattle.fourier.specs.Table.{root, wanted, rule, Accepted, entry-below, entry-pow, root-pow}
 

@@ -1,4 +1,4 @@
 -- Residues modulo m: the permitted moduli, lists of residues, and what the judgement of a table says.
 pub mod Moduli
-pub mod Lists
+pub mod Judgement
 pub mod Beginnings

@@ -1,14 +1,14 @@
 // Residues modulo m and exponents of the root: the arithmetic, the lookup, and the judgement of tables and samples.
 use answer::Found;
 ghost use mathlib.Core.Path.{_≡_};
-ghost use Prim.Native.Nat.{_+_, _≤_, _<_, suc};
+ghost use Prim.Native.Nat.{_+_, _-_, _≤_, _<_};
+ghost use lib.Dec.{eqb};
 ghost use lib.ListN.{length};
 ghost use Rattle.answer.specs.Lists.{at};
-ghost use Rattle.answer.specs.Search.{first};
 ghost use Rattle.fourier.specs.Numbers.{plus-mod, minus-mod, times-mod};
-ghost use Rattle.fourier.specs.Table.{root, rule, lookup};
+ghost use Rattle.fourier.specs.Table.{root, lookup};
 ghost use Rattle.residues.specs.Moduli.{permits, Permitted};
-ghost use Rattle.residues.specs.Lists.{below, Below};
+ghost use Rattle.residues.specs.Judgement.{Below, bad-entry, bad-sample};
 
 // A value modulo m.
 pub struct Residue(pub u32);
@@ -67,15 +67,15 @@ pub fn times(a: Residue, b: Residue, m: Modulus) -> Residue
     requires { ⌜ (a .0 < m .value) × (b .0 < m .value) ⌝ }
     ensures { λ r. ⌜ r .0 ≡ times-mod (m .value) (a .0) (b .0) ⌝ }
 {
-    Residue(product(a.0, b.0, m.value))
+    Residue(product(a.0, b.0, m))
 }
 
 // The product modulo m of any two numbers.
-fn product(a: u32, b: u32, m: u32) -> u32
-    requires { ⌜ Permitted m ⌝ }
-    ensures { λ r. ⌜ r ≡ times-mod m a b ⌝ }
+fn product(a: u32, b: u32, m: Modulus) -> u32
+    requires { ⌜ Permitted (m .value) ⌝ }
+    ensures { λ r. ⌜ r ≡ times-mod (m .value) a b ⌝ }
 {
-    (a as u64 * b as u64 % m as u64) as u32
+    (a as u64 * b as u64 % m.value as u64) as u32
 }
 
 // The root to the e: "an exponent e from N/2 to N - 1 means minus the entry at e - N/2".
@@ -94,54 +94,64 @@ pub fn lookup(table: &[u32], e: Exponent, m: Modulus) -> Residue
 }
 
 // The root of a table: "its second entry, or m - 1 when N = 2".
-fn root_of(table: &[u32], m: u32) -> u32
-    requires { ⌜ Permitted m ⌝ }
-    requires { ⌜ 1 ≤ length (now table) ⌝ }
-    ensures { λ r. ⌜ r ≡ root m (length (now (table .entry))) (at (now (table .entry))) ⌝ }
-{
-    if table.len() == 1 { m - 1 } else { table[1] }
-}
-
-// The table's test: the first place at which a rule fails, the table's length for the closing rule, or the accepted mark.
-pub fn judge_table(table: &[u32], m: Modulus) -> Found
+fn root_of(table: &[u32], m: Modulus) -> u32
     requires { ⌜ Permitted (m .value) ⌝ }
     requires { ⌜ 1 ≤ length (now table) ⌝ }
-    ensures { λ r. ⌜ r ≡ first (rule (m .value) (length (now (table .entry))) (at (now (table .entry)))) 0 (suc (length (now (table .entry)))) ⌝ }
+    ensures { λ r. ⌜ r ≡ root (m .value) (length (now (table .entry))) (at (now (table .entry))) ⌝ }
 {
-    let modulus = m.value;
-    let x = root_of(table, modulus);
-    let mut wanted: u32 = 1;
-    let mut i = 0;
-    loop {
-        if i == table.len() {
-            if wanted == modulus - 1 {
-                break Found::Nowhere;
-            } else {
-                break Found::At(i);
-            }
-        }
-        let entry = table[i];
-        if entry != wanted {
-            break Found::At(i);
-        }
-        wanted = product(entry, x, modulus);
-        i += 1;
+    if table.len() == 1 {
+        m.value - 1
+    } else {
+        table[1]
     }
 }
 
-// The samples' test: the first place that holds no residue, or the accepted mark.
-pub fn judge_samples(buf: &[u32], m: Modulus) -> Found
-    ensures { λ r. ⌜ r ≡ first (below (m .value) (now (buf .entry))) 0 (length (now (buf .entry))) ⌝ }
+// The closing rule, of the last entry times x.
+fn closes(wanted: u32, m: Modulus) -> bool
+    requires { ⌜ Permitted (m .value) ⌝ }
+    ensures { λ r. ⌜ r ≡ eqb wanted (m .value - 1) ⌝ }
 {
-    let modulus = m.value;
-    let mut i = 0;
+    wanted == m.value - 1
+}
+
+// Refusal 4: the first place at which a rule of the table fails, or the accepted mark.
+pub fn judge_table(table: &[u32], m: Modulus) -> Found
+    requires { ⌜ Permitted (m .value) ⌝ }
+    requires { ⌜ 1 ≤ length (now table) ⌝ }
+    ensures { λ r. ⌜ r ≡ bad-entry (m .value) (now (table .entry)) ⌝ }
+{
+    let x = root_of(table, m);
+    let mut wanted: u32 = 1;
+    let mut place = 0;
     loop {
-        if i == buf.len() {
+        if place == table.len() {
+            if closes(wanted, m) {
+                break Found::Nowhere;
+            } else {
+                break Found::At(table.len());
+            }
+        }
+        let entry = table[place];
+        if entry != wanted {
+            break Found::At(place);
+        }
+        wanted = product(entry, x, m);
+        place += 1;
+    }
+}
+
+// Refusal 5: the first place of a sample at or above m, or the accepted mark.
+pub fn judge_samples(buf: &[u32], m: Modulus) -> Found
+    ensures { λ r. ⌜ r ≡ bad-sample (m .value) (now (buf .entry)) ⌝ }
+{
+    let mut index = 0;
+    loop {
+        if index == buf.len() {
             break Found::Nowhere;
         }
-        if modulus <= buf[i] {
-            break Found::At(i);
+        if m.value <= buf[index] {
+            break Found::At(index);
         }
-        i += 1;
+        index += 1;
     }
 }

@@ -1,47 +1,39 @@
+-- An entry, or 0 minus an entry.
 use Prim.Native.Nat.{_-_}
 use native.Mathlib.Nat.{zero-add}
-use lib.ListN.{length}
--- An entry, or 0 minus an entry.
 use native.Mathlib.Omega.{arith}
+use lib.ListN.{length}
 use borrow.Author.Tests.{lt-ltb, le-ltb}
-use Rattle.fourier.specs.Table.{lookup}
 use borrow.Author.Needs.{needs}
+use Rattle.fourier.specs.Table.{lookup}
 use Rattle.residues.proofs.lookup.Statement.{statement}
 use Rattle.residues.proofs.lookup.Tie as tie
-use Rattle.residues.proofs.lookup.Reads as reads
-use Rattle.residues.proofs.lookup.Lts as lts
-use Rattle.residues.proofs.minus.Reads as minus-reads
 
--- src/lib.rt:82:24
 mul-t8 : tie.Need-mul-t8
 mul-t8 c = search needs
 
--- src/lib.rt:82:24
 shared-slice-read-t10 : tie.Need-shared-slice-read-t10
 shared-slice-read-t10 c = search needs
 
--- src/lib.rt:82:9
 returns : tie.Need-returns
 unfolding lookup
 returns c = simp (lt-ltb _ _ (c .before .if1 .taken))
 
--- src/lib.rt:84:23
 sub-entry : tie.Need-sub-entry
 sub-entry c = search needs
 
--- src/lib.rt:84:17
 mul-entry : tie.Need-mul-entry
 mul-entry c = search needs
 
--- src/lib.rt:84:17
 shared-slice-read-entry : tie.Need-shared-slice-read-entry
 shared-slice-read-entry c = search needs
 
--- src/lib.rt:85:5
 minus-requires : tie.Need-minus-requires
-minus-requires c κs = let s = c .before .before .before in (s .pre .0, (omega arith, s .pre .1 .0 .each (s .args .e .0 - length (s .args .table .now))))
+minus-requires c κs =
+    let s = c .before .before .before in
+    let entry = s .pre .1 .0 .each (s .args .e .0 - length (s .args .table .now)) in
+    (s .pre .0, (omega arith, omega arith))
 
--- src/lib.rt:74:1
 returns-2 : tie.Need-returns-2
 unfolding lookup
 returns-2 c = rw (← zero-add (c .before .before .before .before .args .m .value - _), le-ltb _ _ (c .before .before .if1 .left)) (c .minus .ensures)

@@ -1,25 +1,19 @@
 -- With m added where it is borrowed, the difference is below m; else it is m less than a + (m - b).
 use native.Mathlib.Omega.{arith}
-use Rattle.residues.proofs.Arithmetic.{mod-small, mod-minus}
 use borrow.Author.Needs.{needs}
+use Rattle.residues.proofs.Arithmetic.{mod-small, mod-minus}
 use Rattle.residues.proofs.minus.Statement.{statement}
 use Rattle.residues.proofs.minus.Tie as tie
-use Rattle.residues.proofs.minus.Reads as reads
-use Rattle.residues.proofs.minus.Lts as lts
 
--- src/lib.rt:53:35
 sub-t6 : tie.Need-sub-t6
 sub-t6 c = search needs
 
--- src/lib.rt:53:28
 add-t7 : tie.Need-add-t7
 add-t7 c = search needs
 
--- src/lib.rt:48:1
 returns : tie.Need-returns
 returns c = mod-small (omega arith)
 
--- src/lib.rt:48:1
 returns-2 : tie.Need-returns-2
 returns-2 c = mod-minus (omega arith) (omega arith)
 

@@ -1,26 +1,20 @@
 -- By the length.
+use borrow.Author.Needs.{needs}
 use borrow.Author.Tests.{eq-eqb, ne-eqb}
 use Rattle.fourier.specs.Table.{root}
-use borrow.Author.Needs.{needs}
 use Rattle.residues.proofs.root_of.Statement.{statement}
 use Rattle.residues.proofs.root_of.Tie as tie
-use Rattle.residues.proofs.root_of.Reads as reads
-use Rattle.residues.proofs.root_of.Lts as lts
 
--- src/lib.rt:94:27
 sub-result : tie.Need-sub-result
 sub-result c = search needs
 
--- src/lib.rt:94:42
 shared-slice-read-result : tie.Need-shared-slice-read-result
 shared-slice-read-result c = search needs
 
--- src/lib.rt:89:1
 returns : tie.Need-returns
 unfolding root
-returns c = rw (eq-eqb _ _ (c .if1 .taken))
+returns c = rw (eq-eqb _ _ (c .before .if1 .taken))
 
--- src/lib.rt:89:1
 returns-2 : tie.Need-returns-2
 unfolding root
 returns-2 c = rw (ne-eqb _ _ (c .before .if1 .left))
