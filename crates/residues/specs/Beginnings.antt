@@ -1,5 +1,4 @@
--- A table's beginning taken for the shorter table: "With two or more entries in the shorter one this can't be accepted under the same m;
--- a lone 1 can, since N = 2 has its own root."
+-- A table's beginning taken for the shorter table, one of document 01's slips: when it can be accepted.
 use Prim.Native.Nat.{ℕ, zero, suc, _+_, _-_, _*_, _%_, _^_, _<_, _≤_}
 use mathlib.Core.Path.{_≡_, refl, sym, ap, _∙_}
 use mathlib.Core.Bool.{true}
@@ -38,7 +37,7 @@ module _ (m : ℕ) (least : 3 ≤ m) where
       let e : 1 ≡ m - 1 = of-injective m pos (omega arith) (omega arith) (sym round ∙ closing ∙ sym (of-minus m pos 1 pos)) in
       omega arith
 
-  -- A beginning of two or more entries is not accepted.
+  -- "With two or more entries in the shorter one this can't be accepted under the same m": a table of 2^a entries, and its first 2^b.
   pub beginning-refused : (l : List ℕ) (a b : ℕ) → 1 ≤ b → b < a → Accepted m (2 ^ a) (at l) → Accepted m (2 ^ b) (at (take (2 ^ b) l)) → ⊥
   beginning-refused l a b some less long short =
       let two : 2 ^ 1 ≤ 2 ^ b = pow-mono some in
@@ -46,7 +45,7 @@ module _ (m : ℕ) (least : 3 ≤ m) where
       let whole : 2 ^ a ≡ (2 ^ b + 2 ^ b) * 2 ^ (a - suc b) = ap (λ (z : ℕ). 2 ^ z) e ∙ rw (pow-add, two-pow-succ) in
       not-both (at (take (2 ^ b) l)) (at l) (getD-take (2 ^ b) l 1 0 (omega arith)) (2 ^ b) (2 ^ (a - suc b)) (omega arith) short (rw whole at long)
 
-  -- A lone 1 is the table for N = 2, whose root is m - 1.
+  -- "A lone 1 can, since N = 2 has its own root."
   pub lone-accepted : (t : ℕ → ℕ) → t 0 ≡ 1 → Accepted m 1 t
   unfolding rule wanted root
   lone-accepted t e = record { at = by }
@@ -59,7 +58,7 @@ module _ (m : ℕ) (least : 3 ≤ m) where
   pub lone-one : Accepted m 1 (at (1 ∷ []))
   lone-one = lone-accepted (at (1 ∷ [])) refl
 
-  -- So the first entry of any accepted table, alone, is accepted.
+  -- So the first entry of any accepted table, alone, is accepted for N = 2.
   pub first-entry : (h : ℕ) (t : ℕ → ℕ) → 1 ≤ h → Accepted m h t → t 0 ≡ 1
   first-entry h t some r = of-injective m pos (entry-below m h pos t r 0 some) (omega arith) (entry-pow m h pos t r 0 some ∙ pow-zero (modulo m pos) (of (root m h t)))
 

@@ -70,7 +70,7 @@ pub fn times(a: Residue, b: Residue, m: Modulus) -> Residue
     Residue(product(a.0, b.0, m))
 }
 
-// The product modulo m of any two numbers.
+// The product modulo m of any two numbers, one reduction.
 fn product(a: u32, b: u32, m: Modulus) -> u32
     requires { ⌜ Permitted (m .value) ⌝ }
     ensures { λ r. ⌜ r ≡ times-mod (m .value) a b ⌝ }
@@ -106,7 +106,7 @@ fn root_of(table: &[u32], m: Modulus) -> u32
     }
 }
 
-// The closing rule, of the last entry times x.
+// The closing rule, "the last entry times x is m - 1", of that product.
 fn closes(wanted: u32, m: Modulus) -> bool
     requires { ⌜ Permitted (m .value) ⌝ }
     ensures { λ r. ⌜ r ≡ eqb wanted (m .value - 1) ⌝ }
