@@ -1,5 +1,5 @@
 -- What is judged by 4 and 5: the first bad place of a table and of samples, and what it says that there is none.
-use Prim.Native.Nat.{ℕ, suc, _<_}
+use Prim.Native.Nat.{ℕ, suc, _<_, _≤_}
 use mathlib.Core.Path.{_≡_}
 use mathlib.Core.Bool.{Bool}
 use mathlib.Core.List.{List}
@@ -11,6 +11,7 @@ use Rattle.answer.specs.Search.{first, first-passed, nowhere-passed}
 use Rattle.answer.specs.declared.Found.{Found}
 use Rattle.answer.specs.declared.Found.the-variants.{Nowhere}
 use Rattle.fourier.specs.Table.{rule, Accepted, entry-below}
+use Rattle.residues.specs.Moduli.{Permitted}
 
 -- ---- definitions
 
@@ -29,6 +30,13 @@ bad-entry m l = first (rule m (length l) (at l)) 0 (suc (length l))
 -- 5: the first "sample at or above m".
 abbrev pub bad-sample : ℕ → List ℕ → Found
 bad-sample m l = first (below m l) 0 (length l)
+
+-- What the judgement of modulus, table and data leaves to those who work on them: a table and data of residues, and no long table.
+pub record Judged (m : ℕ) (t l : List ℕ) : Type 0 where
+  pub modulus : Permitted m
+  pub entries : Below m t
+  pub values : Below m l
+  pub small : length t ≤ 2048
 
 -- ---- what an answer says
 

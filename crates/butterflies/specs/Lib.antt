@@ -1,0 +1,2 @@
+-- What the stages in place compute.
+pub mod Ways
