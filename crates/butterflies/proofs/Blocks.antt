@@ -1,6 +1,6 @@
 -- A block pair by pair, and a stage block by block, as loops over lists do them.
 use Prim.Native.Nat.{ℕ, zero, suc, _+_, _*_, _<_, _≤_}
-use mathlib.Core.Path.{_≡_, refl, sym, ap, _∙_}
+use mathlib.Core.Path.{_≡_, sym, ap, _∙_}
 use mathlib.Core.List.{List}
 use native.Mathlib.Nat.{lt-of-lt-of-le, mul-lt-mul-of-pos-left, mul-le-mul-right, suc-mul, mod-lt}
 use native.Mathlib.Omega.{arith}
@@ -36,7 +36,7 @@ module _ (w : Wing ℕ) (stride h : ℕ) where
       let long : length l ≡ n = r .long in
       let mid = mid-holds 0 a k l (omega arith) in
       let same : (q : ℕ) → q < h + h → at (midOf a k l) q ≡ f (j * (h + h) + q) =
-          (λ q g. mid .here q (omega arith) ∙ r .left (a + q) (omega arith) (omega arith) ∙ ap (λ z. f (z + q)) ea) in
+      (λ q g. mid .here q (omega arith) ∙ r .left (a + q) (omega arith) (omega arith) ∙ ap (λ z. f (z + q)) ea) in
       let held : Holds 0 part (h + h) (step w (butterfly stride h) (at (midOf a k l))) = holds e in
       let wrote : Holds 0 part k (λ p. step w (butterfly stride h) f (a + p)) = record {
         long = held .long ∙ sym ek;

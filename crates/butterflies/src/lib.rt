@@ -1,7 +1,9 @@
 // Stages in place over residues: block after block, and in a block pair after pair.
-use residues::{Exponent, Modulus, Residue};
+use residues::Exponent;
+use residues::Modulus;
+use residues::Residue;
 ghost use mathlib.Core.Path.{_≡_};
-ghost use Prim.Native.Nat.{_+_, _-_, _*_, _/_, _%_, _≤_, _<_};
+ghost use Prim.Native.Nat.{_+_, _-_, _*_, _%_, _≤_, _<_};
 ghost use lib.ListN.{length};
 ghost use Rattle.answer.specs.Lists.{at, tabulate};
 ghost use Rattle.fourier.specs.Schedules.{butterfly, step};
@@ -37,7 +39,7 @@ fn in_time(a: Residue, b: Residue, t: Residue, m: Modulus) -> Parts
     requires { ⌜ Permitted (m .value) ⌝ }
     requires { ⌜ (a .0 < m .value) × (b .0 < m .value) × (t .0 < m .value) ⌝ }
     ensures { λ r. ⌜ (r .0 ≡ plus-mod (m .value) (a .0) (times-mod (m .value) (t .0) (b .0)))
-      × (r .1 ≡ minus-mod (m .value) (a .0) (times-mod (m .value) (t .0) (b .0))) ⌝ }
+        × (r .1 ≡ minus-mod (m .value) (a .0) (times-mod (m .value) (t .0) (b .0))) ⌝ }
 {
     let product = residues::times(t, b, m);
     let sum = residues::plus(a, product, m);
@@ -64,7 +66,7 @@ fn pair(way: Way, a: Residue, b: Residue, table: &[u32], e: Exponent, m: Modulus
     requires { ⌜ e .0 < length (now table) ⌝ }
     requires { ⌜ (a .0 < m .value) × (b .0 < m .value) ⌝ }
     ensures { λ r. ⌜ (r .0 ≡ wing way (m .value) (length (now (table .entry))) (at (now (table .entry))) 0 (e .0) (a .0) (b .0))
-      × (r .1 ≡ wing way (m .value) (length (now (table .entry))) (at (now (table .entry))) 1 (e .0) (a .0) (b .0)) ⌝ }
+        × (r .1 ≡ wing way (m .value) (length (now (table .entry))) (at (now (table .entry))) 1 (e .0) (a .0) (b .0)) ⌝ }
 {
     match way {
         Way::Frequency => {
@@ -89,7 +91,7 @@ pub fn block(buf: &mut [u32], table: &[u32], m: Modulus, way: Way, stride: usize
     requires { ⌜ length (now buf) ≡ h + h ⌝ }
     requires { ⌜ (1 ≤ stride) × (stride * h ≤ length (now table)) ⌝ }
     ensures { λ _. ⌜ now (buf .exit) ≡ tabulate (h + h)
-      (step (wing way (m .value) (length (now (table .entry))) (at (now (table .entry)))) (butterfly stride h) (at (now (buf .entry)))) ⌝ }
+        (step (wing way (m .value) (length (now (table .entry))) (at (now (table .entry)))) (butterfly stride h) (at (now (buf .entry)))) ⌝ }
 {
     let mut i = 0;
     while i < h {
@@ -108,7 +110,7 @@ pub fn stage(buf: &mut [u32], table: &[u32], m: Modulus, way: Way, stride: usize
     requires { ⌜ length (now buf) ≡ stride * (h + h) ⌝ }
     requires { ⌜ (1 ≤ stride) × (stride * h ≤ length (now table)) ⌝ }
     ensures { λ _. ⌜ now (buf .exit) ≡ tabulate (length (now (buf .entry)))
-      (step (wing way (m .value) (length (now (table .entry))) (at (now (table .entry)))) (butterfly stride h) (at (now (buf .entry)))) ⌝ }
+        (step (wing way (m .value) (length (now (table .entry))) (at (now (table .entry)))) (butterfly stride h) (at (now (buf .entry)))) ⌝ }
 {
     let size = h + h;
     let mut base = 0;

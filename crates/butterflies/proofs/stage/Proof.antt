@@ -70,9 +70,10 @@ block-requires c κs =
     let k = room (c .before) in
     let size : l .base + (s .args .h + s .args .h) - l .base ≡ s .args .h + s .args .h = omega arith in
     let mid = mid-holds 0 (l .base) (l .base + (s .args .h + s .args .h) - l .base) (l .buf) (omega arith) in
-    let values = written-below (s .args .way) (s .args .m .value) (length (s .args .table .now)) (at (s .args .table .now)) (butterfly (s .args .stride) (s .args .h)) (at (s .args .buf .now)) (omega arith) (s .pre .0 .values .each) (l .inv .2) in
-    (record { modulus = s .pre .0 .modulus; entries = s .pre .0 .entries; values = mid-below (l .base) (omega arith) values mid; small = s .pre .0 .small },
-      (mid .long ∙ size, (s .pre .1 .1 .0, s .pre .1 .1 .1)))
+    let values = written-below (s .args .way) (s .args .m .value) (length (s .args .table .now)) (at (s .args .table .now)) (butterfly (s .args .stride) (s .args .h)) (at (s .args .buf .now)) (omega arith) (s .pre .0 .values .each) (l .inv .2) in (
+      record { modulus = s .pre .0 .modulus; entries = s .pre .0 .entries; values = mid-below (l .base) (omega arith) values mid; small = s .pre .0 .small },
+      (mid .long ∙ size, (s .pre .1 .1 .0, s .pre .1 .1 .1)),
+    )
 
 -- src/lib.rt:118:9
 add-base : tie.Need-add-base Inv-loop μ-loop
