@@ -1,0 +1,86 @@
+use Prim.Native.Nat.{ℕ, _+_, _<_}
+use mathlib.Core.Path.{_≡_, refl, sym, _∙_}
+use mathlib.Core.Bool.{true}
+use native.Mathlib.Omega.{arith}
+use lib.ListN.{length}
+use borrow.Author.Tests.{not-true, not-false, lt-ltb, ltb-true}
+use Rattle.answer.specs.Lengths.{permitted-range}
+use Rattle.residues.specs.Moduli.{permits, permits-permitted}
+use Rattle.modular.specs.Verdicts.{permitted-length, accept-verdict}
+use Rattle.modular.proofs.Tests.{some}
+use borrow.Author.Needs.{needs}
+use Rattle.modular.proofs.accepting.accept.Statement.{statement}
+use Rattle.modular.proofs.accepting.accept.Tie as tie
+use Rattle.modular.proofs.accepting.accept.Reads as reads
+use Rattle.modular.proofs.accepting.accept.Lts as lts
+use Rattle.answer.proofs.log_of.Reads as log-of-reads
+use Rattle.residues.proofs.judge_table.Reads as judge-table-reads
+use Rattle.residues.proofs.permitted.Reads as permitted-reads
+
+-- What the tests that were passed tell.
+modulus : (c : tie.Else1) → permits (c .before .before .before .args .m) ≡ true
+modulus c = sym (c .before .permitted .ensures) ∙ not-false _ (c .if1 .left)
+
+size : (c : tie.Else2) → (let t = c .before .before .before .before .before .args .table .now in permitted-length (length t + length t) ≡ true)
+size c = let e = c .before .log-of .ensures in lt-ltb 0 _ (rw e at (some _ (c .if2 .left)))
+
+-- src/accepting.rt:11:9
+permitted-requires : tie.Need-permitted-requires
+permitted-requires c κs = search needs
+
+-- src/accepting.rt:12:9
+returns : tie.Need-returns
+unfolding accept-verdict
+returns c = rw (sym (c .before .permitted .ensures) ∙ not-true _ (c .if1 .taken))
+
+-- src/accepting.rt:14:23
+add-log-of : tie.Need-add-log-of
+add-log-of c = search needs
+
+-- src/accepting.rt:14:8
+log-of-requires : tie.Need-log-of-requires
+log-of-requires c κs = search needs
+
+-- src/accepting.rt:15:9
+returns-2 : tie.Need-returns-2
+unfolding accept-verdict
+returns-2 c = rw (modulus (c .before .before), ← c .before .log-of .ensures, c .if2 .taken)
+
+-- src/accepting.rt:17:9
+judge-table-requires : tie.Need-judge-table-requires
+judge-table-requires c κs =
+    let t = c .before .before .before .before .before .args .table .now in
+    let long = permitted-range (length t + length t) (ltb-true 0 _ (size c)) in
+    (permits-permitted _ (modulus (c .before .before)), omega arith)
+
+-- src/accepting.rt:18:22
+enum-known-entry : tie.Need-enum-known-entry
+enum-known-entry c = search needs
+
+-- src/accepting.rt:19:9
+returns-3 : tie.Need-returns-3
+unfolding accept-verdict
+returns-3 c = let e = c .before .before .before .before in rw (modulus (e .before .before), size e, ← c .before .before .before .judge-table .ensures, c .before .entry .given .1)
+
+enum-told : tie.Need-enum-told
+enum-told c = search needs
+
+-- src/accepting.rt:8:1
+returns-4 : tie.Need-returns-4
+unfolding accept-verdict
+returns-4 c = let e = c .before .before .before in rw (modulus (e .before .before), size e, ← c .before .before .judge-table .ensures, c .enum-told .given .1)
+
+pub accept-spec : {M : Type 1} → statement M
+accept-spec =
+    tie.close
+    (tie.spec
+    permitted-requires
+    returns
+    add-log-of
+    log-of-requires
+    returns-2
+    judge-table-requires
+    enum-known-entry
+    returns-3
+    enum-told
+    returns-4)

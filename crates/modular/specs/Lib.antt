@@ -1,0 +1,2 @@
+-- The public calls over residues: their outcomes, and what follows from them.
+pub mod Verdicts

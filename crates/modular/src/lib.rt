@@ -1,0 +1,4 @@
+// The public calls over residues. Each tests everything that it is lent, in document 01's order, and only then works.
+mod accepting;
+mod judging;
+pub use accepting::accept;
