@@ -14,14 +14,6 @@ use Rattle.residues.specs.Judgement.{bad-entry, bad-sample}
 abbrev pub permitted-length : ℕ → Bool
 permitted-length N = ltb 0 (log-of N)
 
--- The schedules that work through scratch: "scratch counts only for schedules 2 and 5".
-abbrev pub through-scratch : ℕ → Bool
-through-scratch schedule = cond (eqb schedule 2) true (eqb schedule 5)
-
--- Scratch is as long as the data, where it counts.
-abbrev pub scratch-fits : ℕ → List ℕ → List ℕ → Bool
-scratch-fits schedule scratch buf = cond (through-scratch schedule) (eqb (length scratch) (length buf)) true
-
 -- The table of N/2 entries by 3 and 4, and the samples by 5.
 unfoldable pub lent-verdict : ℕ → List ℕ → List ℕ → Answer
 lent-verdict m table buf =
@@ -36,27 +28,38 @@ accept-verdict m table =
     (unless (permitted-length (length table + length table)) (refuse 3)
     (judged-at 4 (bad-entry m table) done))
 
+-- The schedules that work through scratch: "scratch counts only for schedules 2 and 5".
+abbrev pub through-scratch : ℕ → Bool
+through-scratch schedule = cond (eqb schedule 2) true (eqb schedule 5)
+
+-- Scratch is as long as the data, where it counts.
+unfoldable pub scratch-fits : ℕ → ℕ → ℕ → Bool
+scratch-fits schedule scratch N = cond (through-scratch schedule) (eqb scratch N) true
+
+-- From the modulus on: 2, 6, 3, 4, 5. Of scratch only the length counts.
+unfoldable pub rest-verdict : ℕ → List ℕ → ℕ → List ℕ → ℕ → Answer
+rest-verdict schedule buf m table scratch =
+    unless (permits m) (refuse 2)
+    (unless (scratch-fits schedule scratch (length buf)) (refuse 6)
+    (lent-verdict m table buf))
+
 -- The transform: 7, 1, 2, 6, 3, 4, 5.
 abbrev pub offers : ℕ → Bool
 offers schedule = eqb schedule 1
 
-unfoldable pub transform-verdict : ℕ → List ℕ → ℕ → List ℕ → List ℕ → Answer
+unfoldable pub transform-verdict : ℕ → List ℕ → ℕ → List ℕ → ℕ → Answer
 transform-verdict schedule buf m table scratch =
     unless (offers schedule) (refuse 7)
     (unless (permitted-length (length buf)) (refuse 1)
-    (unless (permits m) (refuse 2)
-    (unless (scratch-fits schedule scratch buf) (refuse 6)
-    (lent-verdict m table buf))))
+    (rest-verdict schedule buf m table scratch))
 
--- A single stage: 7, 1, 8, 2, 6, 3, 4, 5.
+-- A single stage s: 7, 1, 8, 2, 6, 3, 4, 5.
 abbrev pub offers-stage : ℕ → Bool
 offers-stage schedule = eqb schedule 1
 
-unfoldable pub stage-verdict : ℕ → ℕ → List ℕ → ℕ → List ℕ → List ℕ → Answer
+unfoldable pub stage-verdict : ℕ → ℕ → List ℕ → ℕ → List ℕ → ℕ → Answer
 stage-verdict schedule s buf m table scratch =
     unless (offers-stage schedule) (refuse 7)
     (unless (permitted-length (length buf)) (refuse 1)
     (unless (ltb s (log-of (length buf))) (refuse 8)
-    (unless (permits m) (refuse 2)
-    (unless (scratch-fits schedule scratch buf) (refuse 6)
-    (lent-verdict m table buf)))))
+    (rest-verdict schedule buf m table scratch)))

@@ -5,7 +5,7 @@ ghost use mathlib.Core.Path.{_≡_};
 ghost use Prim.Native.Nat.{_/_, _≤_};
 ghost use lib.ListN.{length};
 ghost use Rattle.residues.specs.Moduli.{Permitted};
-ghost use Rattle.modular.specs.Verdicts.{lent-verdict};
+ghost use Rattle.modular.specs.Verdicts.{offers, offers-stage, scratch-fits, lent-verdict, rest-verdict, transform-verdict, stage-verdict};
 
 // The table by 3 and 4, and the samples by 5.
 pub fn judge_lent(buf: &[u32], m: u32, table: &[u32]) -> Answer
@@ -26,4 +26,75 @@ pub fn judge_lent(buf: &[u32], m: u32, table: &[u32]) -> Answer
         return Answer { number: 5, place };
     }
     answer::DONE
+}
+
+// Whether scratch counts for the schedule and is not as long as the data.
+fn scratch_fits(schedule: u32, scratch: usize, len: usize) -> bool
+    ensures { λ r. ⌜ r ≡ scratch-fits schedule scratch len ⌝ }
+{
+    if schedule == 2 {
+        return scratch == len;
+    }
+    if schedule == 5 {
+        return scratch == len;
+    }
+    true
+}
+
+// From the modulus on: 2, 6, 3, 4, 5.
+fn judge_rest(schedule: u32, buf: &[u32], m: u32, table: &[u32], scratch: usize) -> Answer
+    requires { ⌜ 1 ≤ length (now buf) / 2 ⌝ }
+    ensures { λ r. ⌜ r ≡ rest-verdict schedule (now (buf .entry)) m (now (table .entry)) scratch ⌝ }
+{
+    if !residues::permitted(m) {
+        return answer::MODULUS;
+    }
+    if !scratch_fits(schedule, scratch, buf.len()) {
+        return answer::SCRATCH;
+    }
+    judge_lent(buf, m, table)
+}
+
+// The schedules of the whole transform.
+fn offered(schedule: u32) -> bool
+    ensures { λ r. ⌜ r ≡ offers schedule ⌝ }
+{
+    schedule == 1
+}
+
+// The schedules of a single stage.
+fn offered_stage(schedule: u32) -> bool
+    ensures { λ r. ⌜ r ≡ offers-stage schedule ⌝ }
+{
+    schedule == 1
+}
+
+// The whole transform: 7, 1, and the rest.
+pub fn judge_transform(schedule: u32, buf: &[u32], m: u32, table: &[u32], scratch: usize) -> Answer
+    ensures { λ r. ⌜ r ≡ transform-verdict schedule (now (buf .entry)) m (now (table .entry)) scratch ⌝ }
+{
+    if !offered(schedule) {
+        return answer::SCHEDULE;
+    }
+    if answer::log_of(buf.len()) == 0 {
+        return answer::LENGTH;
+    }
+    judge_rest(schedule, buf, m, table, scratch)
+}
+
+// A single stage: 7, 1, 8, and the rest.
+pub fn judge_stage(schedule: u32, s: u32, buf: &[u32], m: u32, table: &[u32], scratch: usize) -> Answer
+    ensures { λ r. ⌜ r ≡ stage-verdict schedule s (now (buf .entry)) m (now (table .entry)) scratch ⌝ }
+{
+    if !offered_stage(schedule) {
+        return answer::SCHEDULE;
+    }
+    let n = answer::log_of(buf.len());
+    if n == 0 {
+        return answer::LENGTH;
+    }
+    if n <= s as usize {
+        return answer::STAGE;
+    }
+    judge_rest(schedule, buf, m, table, scratch)
 }

@@ -7,7 +7,7 @@ use borrow.Author.Tests.{not-true, not-false, lt-ltb, ltb-true}
 use Rattle.answer.specs.Lengths.{permitted-range}
 use Rattle.residues.specs.Moduli.{permits, permits-permitted}
 use Rattle.modular.specs.Verdicts.{permitted-length, accept-verdict}
-use Rattle.modular.proofs.Tests.{some}
+use Rattle.modular.proofs.Tests.{passed, failed, long, long-half}
 use borrow.Author.Needs.{needs}
 use Rattle.modular.proofs.accepting.accept.Statement.{statement}
 use Rattle.modular.proofs.accepting.accept.Tie as tie
@@ -19,10 +19,10 @@ use Rattle.residues.proofs.permitted.Reads as permitted-reads
 
 -- What the tests that were passed tell.
 modulus : (c : tie.Else1) → permits (c .before .before .before .args .m) ≡ true
-modulus c = sym (c .before .permitted .ensures) ∙ not-false _ (c .if1 .left)
+modulus c = passed (c .before .permitted .ensures) (c .if1 .left)
 
 size : (c : tie.Else2) → (let t = c .before .before .before .before .before .args .table .now in permitted-length (length t + length t) ≡ true)
-size c = let e = c .before .log-of .ensures in lt-ltb 0 _ (rw e at (some _ (c .if2 .left)))
+size c = long _ (c .before .log-of .ensures) (c .if2 .left)
 
 -- src/accepting.rt:11:9
 permitted-requires : tie.Need-permitted-requires
@@ -31,7 +31,7 @@ permitted-requires c κs = search needs
 -- src/accepting.rt:12:9
 returns : tie.Need-returns
 unfolding accept-verdict
-returns c = rw (sym (c .before .permitted .ensures) ∙ not-true _ (c .if1 .taken))
+returns c = rw (failed (c .before .permitted .ensures) (c .if1 .taken))
 
 -- src/accepting.rt:14:23
 add-log-of : tie.Need-add-log-of
@@ -50,7 +50,7 @@ returns-2 c = rw (modulus (c .before .before), ← c .before .log-of .ensures, c
 judge-table-requires : tie.Need-judge-table-requires
 judge-table-requires c κs =
     let t = c .before .before .before .before .before .args .table .now in
-    let long = permitted-range (length t + length t) (ltb-true 0 _ (size c)) in
+    let half = long-half (length t + length t) (size c) in
     (permits-permitted _ (modulus (c .before .before)), omega arith)
 
 -- src/accepting.rt:18:22

@@ -1,0 +1,63 @@
+use borrow.Author.Tests.{eq-eqb, ne-eqb, lt-ltb, le-ltb}
+use native.Mathlib.Omega.{arith}
+use Rattle.residues.specs.Moduli.{permits-permitted}
+use Rattle.modular.specs.Verdicts.{scratch-fits, rest-verdict, transform-verdict, stage-verdict}
+use Rattle.modular.proofs.Tests.{passed, failed, long, long-half}
+use borrow.Author.Needs.{needs}
+use Rattle.modular.proofs.judging.judge_stage.Statement.{statement}
+use Rattle.modular.proofs.judging.judge_stage.Tie as tie
+use Rattle.modular.proofs.judging.judge_stage.Reads as reads
+use Rattle.modular.proofs.judging.judge_stage.Lts as lts
+use Rattle.answer.proofs.log_of.Reads as log-of-reads
+use Rattle.modular.proofs.judging.judge_rest.Reads as judge-rest-reads
+use Rattle.modular.proofs.judging.offered_stage.Reads as offered-stage-reads
+
+-- src/judging.rt:89:9
+offered-stage-requires : tie.Need-offered-stage-requires
+offered-stage-requires c κs = search needs
+
+-- src/judging.rt:90:9
+returns : tie.Need-returns
+unfolding stage-verdict
+returns c = rw (failed (c .before .offered-stage .ensures) (c .if1 .taken))
+
+-- src/judging.rt:92:9
+log-of-requires : tie.Need-log-of-requires
+log-of-requires c κs = search needs
+
+-- src/judging.rt:94:9
+returns-2 : tie.Need-returns-2
+unfolding stage-verdict
+returns-2 c = rw (passed (c .before .before .before .offered-stage .ensures) (c .before .before .if1 .left), ← c .before .log-of .ensures, c .if2 .taken)
+
+-- src/judging.rt:97:9
+returns-3 : tie.Need-returns-3
+unfolding stage-verdict
+returns-3 c =
+    let e = c .before in
+    let n = e .before .log-of .ensures in
+    rw (passed (e .before .before .before .offered-stage .ensures) (e .before .before .if1 .left), long _ n (e .if2 .left), ← n, le-ltb _ _ (c .if3 .taken))
+
+-- src/judging.rt:99:5
+judge-rest-requires : tie.Need-judge-rest-requires
+judge-rest-requires c κs = let e = c .before in long-half _ (long _ (e .before .log-of .ensures) (e .if2 .left))
+
+-- src/judging.rt:86:1
+returns-4 : tie.Need-returns-4
+unfolding stage-verdict
+returns-4 c =
+    let e = c .before .before in
+    let n = e .before .log-of .ensures in
+    rw (passed (e .before .before .before .offered-stage .ensures) (e .before .before .if1 .left), long _ n (e .if2 .left), ← n, lt-ltb _ _ (c .before .if3 .left)) (c .judge-rest .ensures)
+
+pub judge-stage-spec : {M : Type 1} → statement M
+judge-stage-spec =
+    tie.close
+    (tie.spec
+    offered-stage-requires
+    returns
+    log-of-requires
+    returns-2
+    returns-3
+    judge-rest-requires
+    returns-4)

@@ -1,0 +1,28 @@
+use borrow.Author.Tests.{eq-eqb, ne-eqb, lt-ltb, le-ltb}
+use native.Mathlib.Omega.{arith}
+use Rattle.residues.specs.Moduli.{permits-permitted}
+use Rattle.modular.specs.Verdicts.{scratch-fits, rest-verdict, transform-verdict, stage-verdict}
+use Rattle.modular.proofs.Tests.{passed, failed, long, long-half}
+use borrow.Author.Needs.{needs}
+use Rattle.modular.proofs.judging.scratch_fits.Statement.{statement}
+use Rattle.modular.proofs.judging.scratch_fits.Tie as tie
+use Rattle.modular.proofs.judging.scratch_fits.Reads as reads
+use Rattle.modular.proofs.judging.scratch_fits.Lts as lts
+
+-- src/judging.rt:36:9
+returns : tie.Need-returns
+unfolding scratch-fits
+returns c = rw (c .if1 .taken)
+
+-- src/judging.rt:39:9
+returns-2 : tie.Need-returns-2
+unfolding scratch-fits
+returns-2 c = rw (c .if2 .taken)
+
+-- src/judging.rt:32:1
+returns-3 : tie.Need-returns-3
+unfolding scratch-fits
+returns-3 c = rw (ne-eqb _ _ (c .before .if1 .left), ne-eqb _ _ (c .if2 .left))
+
+pub scratch-fits-spec : {M : Type 1} → statement M
+scratch-fits-spec = tie.close (tie.spec returns returns-2 returns-3)
