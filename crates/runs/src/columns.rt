@@ -2,10 +2,10 @@
 use butterflies::Way;
 use residues::Modulus;
 ghost use mathlib.Core.Path.{_≡_};
-ghost use Prim.Native.Nat.{ℕ, _-_, _^_, _≤_};
+ghost use Prim.Native.Nat.{ℕ, _-_, _^_, _≤_, _<_};
 ghost use lib.ListN.{length};
 ghost use Rattle.answer.specs.Lists.{at, tabulate};
-ghost use Rattle.fourier.specs.Schedules.{schedule1};
+ghost use Rattle.fourier.specs.Schedules.{columns, step, schedule1};
 ghost use Rattle.fourier.specs.Numbers.{frequency-mod};
 ghost use Rattle.residues.specs.Judgement.{Judged};
 
@@ -25,4 +25,23 @@ pub fn by_columns(buf: &mut [u32], table: &[u32], m: Modulus, n: usize)
         columns += columns;
         s += 1;
     }
+}
+
+// Stage s alone.
+pub fn column_stage(buf: &mut [u32], table: &[u32], m: Modulus, n: usize, s: usize)
+    requires { ⌜ Judged (m .value) (now table) (now buf) ⌝ }
+    requires { ⌜ (s < n) × (length (now buf) ≡ 2 ^ n) × (length (now table) ≡ 2 ^ (n - 1)) ⌝ }
+    ensures { λ _. ⌜ now (buf .exit) ≡ tabulate (length (now (buf .entry)))
+      (step (frequency-mod (m .value) (length (now (table .entry))) (at (now (table .entry)))) (columns n s) (at (now (buf .entry)))) ⌝ }
+{
+    let mut columns = 1;
+    let mut rows = buf.len();
+    let mut i = 0;
+    while i < s {
+        columns += columns;
+        rows = rows / 2;
+        i += 1;
+    }
+    rows = rows / 2;
+    butterflies::stage(buf, table, m, Way::Frequency, columns, rows);
 }

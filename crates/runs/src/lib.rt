@@ -1,4 +1,4 @@
 // Whole schedules over residues, stage after stage.
 mod columns;
 
-pub use columns::by_columns;
+pub use columns::{by_columns, column_stage};
