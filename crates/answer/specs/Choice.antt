@@ -4,6 +4,7 @@ use mathlib.Core.Path.{_≡_, refl}
 use mathlib.Core.Bool.{Bool, true, false, cond}
 use native.Mathlib.Omega.{arith}
 use lib.Dec.{eqb}
+use borrow.Author.Tests.{eq-eqb, ne-eqb}
 use Rattle.answer.specs.declared.Answer.{Answer}
 use Rattle.answer.specs.declared.Found.{Found}
 use Rattle.answer.specs.declared.Found.the-variants.{At, Nowhere}
@@ -33,6 +34,13 @@ judged-at number Nowhere next = next
 -- What is left: new where the answer is done; "a refusal changes nothing lent".
 abbrev pub if-done {ℓ} : {A : Type ℓ} → Answer → A → A → A
 if-done answer new old = cond (eqb (answer .number) 0) new old
+
+-- What a call leaves that did its work, and one that refused.
+pub done-left {ℓ} : {A : Type ℓ} (answer : Answer) (new old : A) → answer .number ≡ 0 → if-done answer new old ≡ new
+done-left answer new old e = rw (eq-eqb (answer .number) 0 e)
+
+pub refused-left {ℓ} : {A : Type ℓ} (answer : Answer) (new old : A) → (answer .number ≡ 0 → ⊥) → if-done answer new old ≡ old
+refused-left answer new old e = rw (ne-eqb (answer .number) 0 e)
 
 -- Done: the test holds, and what comes next is done.
 pub unless-done : (b : Bool) (refusal next : Answer) → 1 ≤ refusal .number → unless b refusal next .number ≡ 0 → (b ≡ true) × (next .number ≡ 0)

@@ -1,2 +1,3 @@
 -- Laws that serve proofs of code.
 pub mod Tests
+pub mod Leaving

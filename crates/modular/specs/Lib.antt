@@ -1,3 +1,4 @@
 -- The public calls over residues: their outcomes, and what follows from them.
 pub mod Verdicts
+pub mod Outcomes
 pub mod Ready

@@ -1,14 +1,13 @@
 -- What it means that a call over residues answers 0: everything that it was lent is as document 01 asks.
-use Prim.Native.Nat.{ℕ, suc, _+_, _-_, _/_, _^_, _≤_, _<_}
-use mathlib.Core.Path.{_≡_, sym, _∙_}
+use Prim.Native.Nat.{ℕ, suc, _-_, _/_, _^_, _≤_, _<_}
+use mathlib.Core.Path.{_≡_}
 use mathlib.Core.Bool.{true}
 use mathlib.Core.List.{List}
 use native.Mathlib.Omega.{arith}
 use lib.ListN.{length}
 use lib.Dec.{ltb, eqb}
-use lib.Pow.{pow-mono}
 use borrow.Author.Tests.{ltb-true, eqb-true}
-use Rattle.answer.specs.Choice.{refuse, done, unless, judged-at, unless-done, judged-done}
+use Rattle.answer.specs.Choice.{refuse, done, unless-done, judged-done}
 use Rattle.answer.specs.Search.{nowhere-passed}
 use Rattle.answer.specs.Lengths.{log-of, permitted-log, permitted-range}
 use Rattle.answer.specs.Lists.{at}
@@ -42,14 +41,16 @@ rest-ready schedule buf m table scratch long zero =
     let halves = two-halves (log-of (length buf)) some in
     let half : length table ≡ length buf / 2 = eqb-true (length table) (length buf / 2) (size .0) in
     let accepted : Accepted m (length table) (at table) = nowhere-passed (rule m (length table) (at table)) (suc (length table)) (entries .0) in
-    let pos : 0 < m = omega arith in
-    (record {
-      judged = record { modulus = permitted; entries = accepted-below m table pos accepted; values = nowhere-below m buf pos (samples .0); small = omega arith };
-      accepted = accepted;
-      some = some;
-      whole = power .0;
-      half = omega arith;
-    }, fits .0)
+    let pos : 0 < m = omega arith in (
+      record {
+        judged = record { modulus = permitted; entries = accepted-below m table pos accepted; values = nowhere-below m buf pos (samples .0); small = omega arith };
+        accepted = accepted;
+        some = some;
+        whole = power .0;
+        half = omega arith;
+      },
+      fits .0,
+    )
 
 pub transform-ready : (schedule : ℕ) (buf : List ℕ) (m : ℕ) (table : List ℕ) (scratch : ℕ) → transform-verdict schedule buf m table scratch .number ≡ 0 →
     (offers schedule ≡ true) × (Ready buf m table) × (scratch-fits schedule scratch (length buf) ≡ true)

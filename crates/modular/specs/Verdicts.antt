@@ -1,9 +1,9 @@
 -- What the calls over residues answer: the first of document 01's conditions that holds, in its order.
-use Prim.Native.Nat.{ℕ, zero, suc, _+_, _/_}
+use Prim.Native.Nat.{ℕ, _+_, _/_}
 use mathlib.Core.Bool.{Bool, true, cond}
 use mathlib.Core.List.{List}
 use lib.ListN.{length}
-use lib.Dec.{ltb, leb, eqb}
+use lib.Dec.{ltb, eqb}
 use Rattle.answer.specs.declared.Answer.{Answer}
 use Rattle.answer.specs.Choice.{refuse, done, unless, judged-at}
 use Rattle.answer.specs.Lengths.{log-of}

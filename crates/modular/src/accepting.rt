@@ -1,12 +1,12 @@
 // Acceptance of a lent table, alone.
-use answer::{Answer, Found};
+use answer::Answer;
+use answer::Found;
 use residues::Modulus;
-ghost use mathlib.Core.Path.{_≡_};
-ghost use Rattle.modular.specs.Verdicts.{accept-verdict};
+ghost use Rattle.modular.specs.Outcomes.{AcceptOutcome};
 
 // Whether the table is accepted modulo m: 2, 3, 4. N follows from the table's length.
 pub fn accept(m: u32, table: &[u32]) -> Answer
-    ensures { λ r. ⌜ r ≡ accept-verdict m (now (table .entry)) ⌝ }
+    ensures { λ r. ⌜ AcceptOutcome m (now (table .entry)) r ⌝ }
 {
     if !residues::permitted(m) {
         return answer::MODULUS;

@@ -1,5 +1,6 @@
 // What several calls judge alike. Nothing here writes.
-use answer::{Answer, Found};
+use answer::Answer;
+use answer::Found;
 use residues::Modulus;
 ghost use mathlib.Core.Path.{_≡_};
 ghost use Prim.Native.Nat.{_/_, _≤_};
@@ -83,7 +84,14 @@ pub fn judge_transform(schedule: u32, buf: &[u32], m: u32, table: &[u32], scratc
 }
 
 // A single stage: 7, 1, 8, and the rest.
-pub fn judge_stage(schedule: u32, s: u32, buf: &[u32], m: u32, table: &[u32], scratch: usize) -> Answer
+pub fn judge_stage(
+    schedule: u32,
+    s: u32,
+    buf: &[u32],
+    m: u32,
+    table: &[u32],
+    scratch: usize,
+) -> Answer
     ensures { λ r. ⌜ r ≡ stage-verdict schedule s (now (buf .entry)) m (now (table .entry)) scratch ⌝ }
 {
     if !offered_stage(schedule) {

@@ -32,7 +32,7 @@ pub fn column_stage(buf: &mut [u32], table: &[u32], m: Modulus, n: usize, s: usi
     requires { ⌜ Judged (m .value) (now table) (now buf) ⌝ }
     requires { ⌜ (s < n) × (length (now buf) ≡ 2 ^ n) × (length (now table) ≡ 2 ^ (n - 1)) ⌝ }
     ensures { λ _. ⌜ now (buf .exit) ≡ tabulate (length (now (buf .entry)))
-      (step (frequency-mod (m .value) (length (now (table .entry))) (at (now (table .entry)))) (columns n s) (at (now (buf .entry)))) ⌝ }
+        (step (frequency-mod (m .value) (length (now (table .entry))) (at (now (table .entry)))) (columns n s) (at (now (buf .entry)))) ⌝ }
 {
     let mut columns = 1;
     let mut rows = buf.len();

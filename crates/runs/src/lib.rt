@@ -1,4 +1,5 @@
 // Whole schedules over residues, stage after stage.
 mod columns;
 
-pub use columns::{by_columns, column_stage};
+pub use columns::by_columns;
+pub use columns::column_stage;

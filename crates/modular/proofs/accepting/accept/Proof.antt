@@ -1,10 +1,8 @@
-use Prim.Native.Nat.{ℕ, _+_, _<_}
-use mathlib.Core.Path.{_≡_, refl, sym, _∙_}
+use Prim.Native.Nat.{_+_}
+use mathlib.Core.Path.{_≡_}
 use mathlib.Core.Bool.{true}
 use native.Mathlib.Omega.{arith}
 use lib.ListN.{length}
-use borrow.Author.Tests.{not-true, not-false, lt-ltb, ltb-true}
-use Rattle.answer.specs.Lengths.{permitted-range}
 use Rattle.residues.specs.Moduli.{permits, permits-permitted}
 use Rattle.modular.specs.Verdicts.{permitted-length, accept-verdict}
 use Rattle.modular.proofs.Tests.{passed, failed, long, long-half}
@@ -31,7 +29,7 @@ permitted-requires c κs = search needs
 -- src/accepting.rt:12:9
 returns : tie.Need-returns
 unfolding accept-verdict
-returns c = rw (failed (c .before .permitted .ensures) (c .if1 .taken))
+returns c = record { answers = rw (failed (c .before .permitted .ensures) (c .if1 .taken)) }
 
 -- src/accepting.rt:14:23
 add-log-of : tie.Need-add-log-of
@@ -44,7 +42,7 @@ log-of-requires c κs = search needs
 -- src/accepting.rt:15:9
 returns-2 : tie.Need-returns-2
 unfolding accept-verdict
-returns-2 c = rw (modulus (c .before .before), ← c .before .log-of .ensures, c .if2 .taken)
+returns-2 c = record { answers = rw (modulus (c .before .before), ← c .before .log-of .ensures, c .if2 .taken) }
 
 -- src/accepting.rt:17:9
 judge-table-requires : tie.Need-judge-table-requires
@@ -60,7 +58,7 @@ enum-known-entry c = search needs
 -- src/accepting.rt:19:9
 returns-3 : tie.Need-returns-3
 unfolding accept-verdict
-returns-3 c = let e = c .before .before .before .before in rw (modulus (e .before .before), size e, ← c .before .before .before .judge-table .ensures, c .before .entry .given .1)
+returns-3 c = let e = c .before .before .before .before in record { answers = rw (modulus (e .before .before), size e, ← c .before .before .before .judge-table .ensures, c .before .entry .given .1) }
 
 enum-told : tie.Need-enum-told
 enum-told c = search needs
@@ -68,7 +66,7 @@ enum-told c = search needs
 -- src/accepting.rt:8:1
 returns-4 : tie.Need-returns-4
 unfolding accept-verdict
-returns-4 c = let e = c .before .before .before in rw (modulus (e .before .before), size e, ← c .before .before .judge-table .ensures, c .enum-told .given .1)
+returns-4 c = let e = c .before .before .before in record { answers = rw (modulus (e .before .before), size e, ← c .before .before .judge-table .ensures, c .enum-told .given .1) }
 
 pub accept-spec : {M : Type 1} → statement M
 accept-spec =

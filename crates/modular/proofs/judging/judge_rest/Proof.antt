@@ -1,8 +1,7 @@
-use borrow.Author.Tests.{eq-eqb, ne-eqb, lt-ltb, le-ltb}
 use native.Mathlib.Omega.{arith}
 use Rattle.residues.specs.Moduli.{permits-permitted}
-use Rattle.modular.specs.Verdicts.{scratch-fits, rest-verdict, transform-verdict, stage-verdict}
-use Rattle.modular.proofs.Tests.{passed, failed, long, long-half}
+use Rattle.modular.specs.Verdicts.{scratch-fits, rest-verdict}
+use Rattle.modular.proofs.Tests.{passed, failed}
 use borrow.Author.Needs.{needs}
 use Rattle.modular.proofs.judging.judge_rest.Statement.{statement}
 use Rattle.modular.proofs.judging.judge_rest.Tie as tie

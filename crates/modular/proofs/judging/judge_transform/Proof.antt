@@ -1,7 +1,4 @@
-use borrow.Author.Tests.{eq-eqb, ne-eqb, lt-ltb, le-ltb}
-use native.Mathlib.Omega.{arith}
-use Rattle.residues.specs.Moduli.{permits-permitted}
-use Rattle.modular.specs.Verdicts.{scratch-fits, rest-verdict, transform-verdict, stage-verdict}
+use Rattle.modular.specs.Verdicts.{transform-verdict}
 use Rattle.modular.proofs.Tests.{passed, failed, long, long-half}
 use borrow.Author.Needs.{needs}
 use Rattle.modular.proofs.judging.judge_transform.Statement.{statement}

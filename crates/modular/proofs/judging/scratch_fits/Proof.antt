@@ -1,9 +1,5 @@
-use borrow.Author.Tests.{eq-eqb, ne-eqb, lt-ltb, le-ltb}
-use native.Mathlib.Omega.{arith}
-use Rattle.residues.specs.Moduli.{permits-permitted}
-use Rattle.modular.specs.Verdicts.{scratch-fits, rest-verdict, transform-verdict, stage-verdict}
-use Rattle.modular.proofs.Tests.{passed, failed, long, long-half}
-use borrow.Author.Needs.{needs}
+use borrow.Author.Tests.{ne-eqb}
+use Rattle.modular.specs.Verdicts.{scratch-fits}
 use Rattle.modular.proofs.judging.scratch_fits.Statement.{statement}
 use Rattle.modular.proofs.judging.scratch_fits.Tie as tie
 use Rattle.modular.proofs.judging.scratch_fits.Reads as reads

@@ -1,0 +1,21 @@
+-- What is left by a call that refused, and by one that did its work.
+use mathlib.Core.Path.{_≡_, sym, ap, _∙_}
+use Prim.Native.Nat.{ℕ}
+use mathlib.Core.Bool.{false}
+use mathlib.Core.List.{List}
+use Rattle.answer.specs.declared.Answer.{Answer}
+use Rattle.answer.specs.Choice.{if-done, done-left, refused-left}
+use Rattle.modular.specs.Verdicts.{through-scratch}
+use Rattle.modular.specs.Outcomes.{cleared}
+
+module _ {A : Type 0} {answer verdict : Answer} (e : answer ≡ verdict) where
+  pub refused : (answer .number ≡ 0 → ⊥) → (new old : A) → old ≡ if-done verdict new old
+  refused h new old = sym (refused-left verdict new old (λ z. h (ap (λ (a : Answer). a .number) e ∙ z)))
+
+  pub worked : answer .number ≡ 0 → (new old : A) {left : A} → left ≡ new → left ≡ if-done verdict new old
+  worked h new old l = l ∙ sym (done-left verdict new old (ap (λ (a : Answer). a .number) (sym e) ∙ h))
+
+-- Scratch of a schedule that does not work through it.
+pub untouched : (schedule : ℕ) (scratch : List ℕ) → through-scratch schedule ≡ false → scratch ≡ cleared schedule scratch
+unfolding cleared
+untouched schedule scratch e = rw e
