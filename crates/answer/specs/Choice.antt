@@ -1,6 +1,7 @@
 -- How a call's answer is chosen: document 01's number and place, and the refusals in their order.
 use Prim.Native.Nat.{ℕ, _≤_}
-use mathlib.Core.Path.{_≡_, refl}
+use mathlib.Core.Path.{_≡_, refl, ap}
+use mathlib.Core.Logic.{_⊎_, inl, inr}
 use mathlib.Core.Bool.{Bool, true, false, cond}
 use native.Mathlib.Omega.{arith}
 use lib.Dec.{eqb}
@@ -51,3 +52,21 @@ unless-done false refusal next h e = absurd (omega arith)
 pub judged-done : (number : ℕ) (f : Found) (next : Answer) → 1 ≤ number → judged-at number f next .number ≡ 0 → (f ≡ Nowhere) × (next .number ≡ 0)
 judged-done number (At p) next h e = absurd (omega arith)
 judged-done number Nowhere next h e = (refl, e)
+
+-- An answer with another number than the refusal comes from behind the test.
+pub unless-past : (b : Bool) (refusal next : Answer) {answer : Answer} → (refusal .number ≡ answer .number → ⊥) → unless b refusal next ≡ answer → next ≡ answer
+unless-past true refusal next h e = e
+unless-past false refusal next h e = absurd (h (ap (λ (a : Answer). a .number) e))
+
+pub judged-past : (number : ℕ) (f : Found) (next : Answer) {answer : Answer} → (number ≡ answer .number → ⊥) → judged-at number f next ≡ answer → next ≡ answer
+judged-past number (At p) next h e = absurd (h (ap (λ (a : Answer). a .number) e))
+judged-past number Nowhere next h e = e
+
+-- One with the search's number has the search's place, where nothing behind it has that number.
+pub judged-here : (number : ℕ) (f : Found) (next : Answer) (place : ℕ) → (next .number ≡ number → ⊥) → judged-at number f next ≡ refuse-at number place → f ≡ At place
+judged-here number (At p) next place h e = ap (λ (a : Answer). At (a .place)) e
+judged-here number Nowhere next place h e = absurd (h (ap (λ (a : Answer). a .number) e))
+
+pub judged-number : (number : ℕ) (f : Found) (next : Answer) → (judged-at number f next .number ≡ number) ⊎ (judged-at number f next ≡ next)
+judged-number number (At p) next = inl refl
+judged-number number Nowhere next = inr refl

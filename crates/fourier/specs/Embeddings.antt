@@ -1,9 +1,10 @@
 -- Schedules 1, 2, 4 and 5 embed Dijkstra's array: by columns, by rows, and in reversed order.
-use Prim.Native.Nat.{ℕ, suc, _+_, _-_, _*_, _/_, _%_, _^_, _<_}
-use mathlib.Core.Path.{_≡_, refl, ap, _∙_}
-use native.Mathlib.Nat.{sub-self, sub-zero, pow-suc, div-add-mod'}
+use Prim.Native.Nat.{_≤_, ℕ, suc, _+_, _-_, _*_, _/_, _%_, _^_, _<_}
+use mathlib.Core.Path.{_≡_, refl, sym, ap, _∙_}
+use native.Mathlib.Nat.{mul-comm, sub-self, sub-zero, pow-suc, div-add-mod'}
 use native.Mathlib.Omega.{arith}
-use lib.Arith.{digits-div, digits-mod}
+use lib.Arith.{digits-lt, digits-div, digits-mod}
+use lib.Pow.{pow-add}
 use Rattle.fourier.specs.Reverse.{rev, rev-lt, rev-low, rev-high}
 use Rattle.fourier.specs.Schedules.{shuffled, columns, shuffle, thong, pease}
 use Rattle.fourier.specs.Sizes.{one-more, rows, half-buffer}
@@ -25,6 +26,12 @@ reversed-wise n s i j = 2 ^ s * rev (n - s) i + rev s j
 -- Samples and sums in order, for schedules 1, 2, 3 and 5.
 abbrev pub straight : ℕ → ℕ
 straight p = p
+
+-- They lie in the buffer.
+pub column-room : (n s i j : ℕ) → s ≤ n → i < 2 ^ (n - s) → j < 2 ^ s → column-wise n s i j < 2 ^ n
+column-room n s i j l hi hj =
+    let whole : 2 ^ s * 2 ^ (n - s) ≡ 2 ^ n = (let e : n ≡ s + (n - s) = omega arith in sym (ap (λ (z : ℕ). 2 ^ z) e ∙ pow-add 2 s (n - s))) in
+    rw (← whole, mul-comm (2 ^ (n - s)) j) (digits-lt hj hi)
 
 -- ---- embeddings
 
