@@ -2,13 +2,18 @@
 use Prim.Native.Nat.{ℕ}
 use mathlib.Core.Path.{_≡_, refl}
 use mathlib.Core.List.{[], _∷_}
-use Rattle.answer.specs.Choice.{refuse-at, done, judged-at}
+use Rattle.answer.specs.Choice.{refuse-at, done}
 use Rattle.answer.specs.Search.{first}
+use Rattle.answer.specs.Lengths.{log-up-to, log-of}
 use Rattle.answer.specs.Lists.{at, tabulate}
 use Rattle.algebra.specs.Sum.{total}
 use Rattle.fourier.specs.Reverse.{rev}
 use Rattle.fourier.specs.Schedules.{Wing, Buffer, butterfly, shuffled, columns, shuffle, pease, step, run, halves, schedule1, schedule2, schedule3, schedule4, schedule5}
 use Rattle.fourier.specs.Table.{root, wanted, rule, lookup, back}
+use Rattle.residues.specs.Moduli.{permits}
+use Rattle.residues.specs.Judgement.{below}
+use Rattle.modular.specs.Verdicts.{scratch-fits, lent-verdict, rest-verdict, accept-verdict, stage-verdict}
+use Rattle.modular.specs.Outcomes.{staged}
 use Rattle.fourier.specs.Numbers.{fourier-mod, frequency-mod, time-mod, inverse-mod}
 
 -- m = 5, table 1 2, samples 1 2 3 4.
@@ -54,10 +59,13 @@ bench :
     × (tabulate 2 (schedule5 1 ℕ (time-mod 3 1 one) two-samples) ≡ 0 ∷ 1 ∷ [])
     × (tabulate 2 (fourier-mod 3 (root 3 1 one) 2 two-samples) ≡ 0 ∷ 1 ∷ [])
     -- these tables are accepted; m = 5, table 1 4 is refused 4 at place 2
-    × (judged-at 4 (first (rule 5 2 table) 0 3) done ≡ done)
-    × (judged-at 4 (first (rule 3 1 one) 0 2) done ≡ done)
-    × (judged-at 4 (first (rule 5 2 (at (1 ∷ 4 ∷ []))) 0 3) done ≡ refuse-at 4 2)
+    × (accept-verdict 5 (1 ∷ 2 ∷ []) ≡ done)
+    × (accept-verdict 3 (1 ∷ []) ≡ done)
+    × (accept-verdict 5 (1 ∷ 4 ∷ []) ≡ refuse-at 4 2)
+    -- the single stage as a call: its answer, and what it leaves
+    × (stage-verdict 1 0 (1 ∷ 2 ∷ 3 ∷ 4 ∷ []) 5 (1 ∷ 2 ∷ []) 0 ≡ done)
+    × (staged 1 0 (1 ∷ 2 ∷ 3 ∷ 4 ∷ []) 5 (1 ∷ 2 ∷ []) ≡ 4 ∷ 1 ∷ 3 ∷ 1 ∷ [])
     -- reversal for N = 8
     × (tabulate 8 (rev 3) ≡ 0 ∷ 4 ∷ 2 ∷ 6 ∷ 1 ∷ 5 ∷ 3 ∷ 7 ∷ [])
-unfolding tabulate total rev butterfly shuffled run halves fourier-mod root wanted rule lookup back inverse-mod first
-bench = (refl, refl, refl, refl, refl, refl, refl, refl, refl, refl, refl, refl, refl, refl, refl, refl, refl, refl, refl, refl)
+unfolding tabulate total rev butterfly shuffled run halves fourier-mod root wanted rule lookup back inverse-mod first log-up-to log-of permits below scratch-fits lent-verdict rest-verdict accept-verdict stage-verdict staged
+bench = (refl, refl, refl, refl, refl, refl, refl, refl, refl, refl, refl, refl, refl, refl, refl, refl, refl, refl, refl, refl, refl, refl)

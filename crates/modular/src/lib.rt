@@ -1,8 +1,9 @@
 // The public calls over residues. Each tests everything that it is lent, in document 01's order, and only then works.
 mod accepting;
 mod judging;
+mod staging;
 mod transforming;
 
 pub use accepting::accept;
-pub use transforming::stage;
+pub use staging::stage;
 pub use transforming::transform;

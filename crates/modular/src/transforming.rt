@@ -3,7 +3,7 @@ use crate::judging::judge_stage;
 use crate::judging::judge_transform;
 use answer::Answer;
 use residues::Modulus;
-ghost use Rattle.modular.specs.Outcomes.{StageOutcome, TransformOutcome};
+ghost use Rattle.modular.specs.Outcomes.{TransformOutcome};
 
 // The transform of buf by the schedule, with the table modulo m: 7, 1, 2, 6, 3, 4, 5.
 pub fn transform(
@@ -22,26 +22,5 @@ pub fn transform(
     }
     let n = answer::log_of(buf.len());
     runs::by_columns(buf, table, Modulus { value: m }, n);
-    verdict
-}
-
-// Stage s of the schedule done to buf, with the table modulo m: 7, 1, 8, 2, 6, 3, 4, 5.
-pub fn stage(
-    schedule: u32,
-    s: u32,
-    buf: &mut [u32],
-    m: u32,
-    table: &[u32],
-    scratch: &mut [u32],
-) -> Answer
-    ensures { λ r. ⌜ StageOutcome schedule s (now (buf .entry)) m (now (table .entry)) (now (scratch .entry))
-        r (now (buf .exit)) (now (scratch .exit)) ⌝ }
-{
-    let verdict = judge_stage(schedule, s, &buf[..], m, table, scratch.len());
-    if verdict.number != 0 {
-        return verdict;
-    }
-    let n = answer::log_of(buf.len());
-    runs::column_stage(buf, table, Modulus { value: m }, n, s as usize);
     verdict
 }

@@ -1,3 +1,5 @@
+use Prim.Native.Nat.{_/_}
+use lib.ListN.{length}
 use borrow.Author.Tests.{eq-eqb, ne-eqb}
 use Rattle.modular.specs.Verdicts.{lent-verdict}
 use borrow.Author.Needs.{needs}
@@ -11,7 +13,7 @@ use Rattle.residues.proofs.judge_table.Reads as judge-table-reads
 -- src/judging.rt:17:9
 returns : tie.Need-returns
 unfolding lent-verdict
-returns c = rw (ne-eqb _ _ (c .if1 .taken))
+returns c = let s = c .before .before .before .args in rw (ne-eqb (length (s .table .now)) (length (s .buf .now) / 2) (c .if1 .taken))
 
 -- src/judging.rt:20:9
 judge-table-requires : tie.Need-judge-table-requires

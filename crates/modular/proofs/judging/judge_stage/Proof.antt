@@ -34,7 +34,7 @@ unfolding stage-verdict
 returns-3 c =
     let e = c .before in
     let n = e .before .log-of .ensures in
-    rw (passed (e .before .before .before .offered-stage .ensures) (e .before .before .if1 .left), long _ n (e .if2 .left), ← n, le-ltb _ _ (c .if3 .taken))
+    rw (passed (e .before .before .before .offered-stage .ensures) (e .before .before .if1 .left), long _ n (e .if2 .left), ← n, le-ltb (e .before .before .before .before .before .before .args .s) (e .before .log-of .result) (c .if3 .taken))
 
 -- src/judging.rt:99:5
 judge-rest-requires : tie.Need-judge-rest-requires
@@ -46,7 +46,7 @@ unfolding stage-verdict
 returns-4 c =
     let e = c .before .before in
     let n = e .before .log-of .ensures in
-    rw (passed (e .before .before .before .offered-stage .ensures) (e .before .before .if1 .left), long _ n (e .if2 .left), ← n, lt-ltb _ _ (c .before .if3 .left)) (c .judge-rest .ensures)
+    rw (passed (e .before .before .before .offered-stage .ensures) (e .before .before .if1 .left), long _ n (e .if2 .left), ← n, lt-ltb (e .before .before .before .before .before .before .args .s) (e .before .log-of .result) (c .before .if3 .left)) (c .judge-rest .ensures)
 
 pub judge-stage-spec : {M : Type 1} → statement M
 judge-stage-spec =
