@@ -1,0 +1,25 @@
+use borrow.Author.Tests.{lt-ltb, le-ltb}
+use Rattle.house.specs.Filling.{turns}
+use borrow.Author.Needs.{needs}
+use Rattle.house.proofs.filling.turns.Statement.{statement}
+use Rattle.house.proofs.filling.turns.Tie as tie
+
+returns : tie.Need-returns
+unfolding turns
+returns c = rw (le-ltb _ _ (c .if1 .taken))
+
+sub-squared : tie.Need-sub-squared
+sub-squared c = search needs
+
+squared-requires : tie.Need-squared-requires
+squared-requires c κs = search needs
+
+sub-result : tie.Need-sub-result
+sub-result c = search needs
+
+returns-2 : tie.Need-returns-2
+unfolding turns
+returns-2 c = rw (lt-ltb _ _ (c .before .before .before .if1 .left), c .before .before .squared .ensures)
+
+pub turns-spec : {M : Type 1} → statement M
+turns-spec = tie.close (tie.spec returns sub-squared squared-requires sub-result returns-2)
