@@ -20,7 +20,7 @@ use Rattle.residues.specs.Moduli.{permits, Permitted, permits-permitted, permit
 use Rattle.house.specs.declared.Setting.{Setting}
 use Rattle.house.specs.Powers.{power-one, power-next}
 use Rattle.house.specs.Rows.{row-permitted, root-below, root-turns}
-use Rattle.house.specs.Settings.{root-for, setting-of, root-for-row}
+use Rattle.house.specs.Settings.{root-for, row-setting, root-for-row}
 
 -- ---- definitions
 
@@ -70,8 +70,8 @@ pub record Turns (m x h : ℕ) : Type 0 where
 pub turns-facts : (m x h : ℕ) → turns m x h ≡ true → Turns m x h
 unfolding turns
 turns-facts m x h e =
-    let both = and-eq-true-iff (ltb x m) (eqb (x ^ h % m) (m - 1)) .0 e in
-    record { below = ltb-true x m (both .0); turn = eqb-true (x ^ h % m) (m - 1) (both .1) }
+    let both = and-eq-true-iff _ _ .0 e in
+    record { below = ltb-true _ _ (both .0); turn = eqb-true _ _ (both .1) }
 
 pub facts-turns : (m x h : ℕ) → Turns m x h → turns m x h ≡ true
 unfolding turns
@@ -145,12 +145,18 @@ filled {setting} {table} {answer} {left} o e =
     }
 
 -- Every house row fills a table of each of the twelve lengths.
-pub row-fills : (row n : ℕ) → row < 3 → 1 ≤ n → n ≤ 12 → verdict (setting-of row) (2 ^ (n - 1)) ≡ done
-unfolding setting-of
-row-fills row n h a b =
+row-done : (row n : ℕ) → row < 3 → 1 ≤ n → n ≤ 12 → verdict (row-setting row) (2 ^ (n - 1)) ≡ done
+unfolding row-setting
+row-done row n h a b =
     let e : log-of (2 ^ (n - 1) + 2 ^ (n - 1)) ≡ n = rw (← two-halves n a) (power-permitted n a b) in
-    ready-done (setting-of row) (2 ^ (n - 1)) (record {
+    ready-done (row-setting row) (2 ^ (n - 1)) (record {
       modulus = row-permitted row h;
       permitted = rw e a;
       root = rw (e, root-for-row row n a b) (record { below = root-below row h n; turn = root-turns row h n a b });
     })
+
+pub row-fills : (row n : ℕ) → row < 3 → 1 ≤ n → n ≤ 12 → {table : List ℕ} {answer : Answer} {left : List ℕ} → length table ≡ 2 ^ (n - 1) → Outcome (row-setting row) table answer left →
+    (answer ≡ done) × Filled (row-setting row) left
+row-fills row n h a b {table} {answer} long o =
+    let e : answer ≡ done = o .answers ∙ rw long (row-done row n h a b) in
+    (e, filled o (ap (λ z. z .number) e))

@@ -21,8 +21,8 @@ unfoldable pub root-for : Setting → ℕ → ℕ
 root-for setting n = getD (setting .roots) (n - 1) (residue 0) .0
 
 -- "The modulus together with its twelve roots, one per length", of a house row.
-unfoldable pub setting-of : ℕ → Setting
-setting-of row = record { modulus = modulus-of row; roots = tabulate 12 (λ k. residue (root-of (modulus-of row) (suc k))) }
+unfoldable pub row-setting : ℕ → Setting
+row-setting row = record { modulus = modulus-of row; roots = tabulate 12 (λ k. residue (root-of (modulus-of row) (suc k))) }
 
 -- A setting "of all zeros".
 abbrev pub zeros : Setting
@@ -35,7 +35,7 @@ verdict row = unless (ltb row 3) (refuse 9) done
 -- What a row yields: the answer, and the row's setting or zeros.
 pub record Outcome (row : ℕ) (answer : Answer) (setting : Setting) : Type 0 where
   pub answers : answer ≡ verdict row
-  pub yields : setting ≡ if-done (verdict row) (setting-of row) zeros
+  pub yields : setting ≡ if-done (verdict row) (row-setting row) zeros
 
 -- ---- no second outcome
 
@@ -44,8 +44,8 @@ outcome-unique x y = (x .answers ∙ sym (y .answers), x .yields ∙ sym (y .yie
 
 -- ---- the roots of a row's setting
 
-pub root-for-row : (row n : ℕ) → 1 ≤ n → n ≤ 12 → root-for (setting-of row) n ≡ root-of (modulus-of row) n
-unfolding root-for setting-of
+pub root-for-row : (row n : ℕ) → 1 ≤ n → n ≤ 12 → root-for (row-setting row) n ≡ root-of (modulus-of row) n
+unfolding root-for row-setting
 root-for-row row n a b =
     let e : suc (n - 1) ≡ n = omega arith in
     ap (λ r. r .0) (getD-tabulate (residue 0) 12 (λ k. residue (root-of (modulus-of row) (suc k))) (n - 1) (omega arith)) ∙ rw e

@@ -37,10 +37,11 @@ pub fn fill(setting: Setting, table: &mut [u32]) -> Answer
 fn judge(setting: Setting, len: usize) -> Answer
     ensures { λ r. ⌜ r ≡ verdict setting len ⌝ }
 {
-    if !residues::permitted(setting.modulus) {
+    let permitted = residues::permitted(setting.modulus);
+    let n = table_log(len);
+    if !permitted {
         return MODULUS;
     }
-    let n = table_log(len);
     if n == 0 {
         return TABLE_LENGTH;
     }

@@ -6,7 +6,7 @@ mod rows;
 
 pub use filling::fill;
 pub use rows::Yielded;
-pub use rows::yield_row;
+pub use rows::setting_of;
 
 // "The modulus together with its twelve roots, one per length": the root for 2^n stands at place n - 1.
 pub struct Setting {

@@ -6,7 +6,7 @@ use answer::ROW;
 use residues::Residue;
 ghost use mathlib.Core.Path.{_≡_};
 ghost use Prim.Native.Nat.{_<_};
-ghost use Rattle.house.specs.Settings.{setting-of, Outcome};
+ghost use Rattle.house.specs.Settings.{row-setting, Outcome};
 
 // The moduli of rows 0 to 2.
 const MODULI: [u32; 3] = [998244353, 469762049, 167772161];
@@ -64,11 +64,11 @@ pub struct Yielded {
 }
 
 // The setting of a house row: 9 for another row, and then a setting of all zeros.
-pub fn yield_row(row: u32) -> Yielded
+pub fn setting_of(row: u32) -> Yielded
     ensures { λ r. ⌜ Outcome row (r .answer) (r .setting) ⌝ }
 {
     if row < 3 {
-        let setting = setting_of(row as usize);
+        let setting = row_setting(row as usize);
         return Yielded {
             answer: DONE,
             setting,
@@ -85,9 +85,9 @@ pub fn yield_row(row: u32) -> Yielded
 }
 
 // The row's modulus with its roots.
-fn setting_of(row: usize) -> Setting
+fn row_setting(row: usize) -> Setting
     requires { ⌜ row < 3 ⌝ }
-    ensures { λ r. ⌜ r ≡ setting-of row ⌝ }
+    ensures { λ r. ⌜ r ≡ row-setting row ⌝ }
 {
     let mut roots = [Residue(0); 12];
     let mut place = 0;

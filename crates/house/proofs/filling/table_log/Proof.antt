@@ -1,3 +1,4 @@
+-- A table of more than 2048 entries is for no permitted length.
 use Prim.Native.Nat.{_+_}
 use mathlib.Core.Logic.{⊎-elim}
 use native.Mathlib.Omega.{arith}

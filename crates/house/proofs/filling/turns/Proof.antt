@@ -1,3 +1,6 @@
+-- By the two tests.
+use Prim.Native.Nat.{_≤_}
+use native.Mathlib.Omega.{arith}
 use borrow.Author.Tests.{lt-ltb, le-ltb}
 use Rattle.house.specs.Filling.{turns}
 use borrow.Author.Needs.{needs}
@@ -6,7 +9,10 @@ use Rattle.house.proofs.filling.turns.Tie as tie
 
 returns : tie.Need-returns
 unfolding turns
-returns c = rw (le-ltb _ _ (c .if1 .taken))
+returns c =
+    let s = c .before .before .before .args in
+    let h : s .m .value ≤ s .x .0 = omega arith in
+    rw (le-ltb (s .x .0) (s .m .value) h)
 
 sub-squared : tie.Need-sub-squared
 sub-squared c = search needs

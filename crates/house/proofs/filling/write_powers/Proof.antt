@@ -1,3 +1,4 @@
+-- In front of `i` the table holds the powers, and `power` is the next one.
 use Prim.Native.Nat.{_-_, _%_, _^_, _≤_}
 use mathlib.Core.Path.{_≡_, sym, _∙_}
 use native.Mathlib.Nat.{pow-zero, mod-lt, mod-eq-of-lt}
