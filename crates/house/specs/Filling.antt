@@ -1,40 +1,32 @@
 -- The filling of a table from a setting: what it answers and leaves, that a filled table is accepted, and that the house rows fill.
-use Prim.Native.Nat.{ℕ, zero, suc, _+_, _-_, _%_, _^_, _<_, _≤_}
-use mathlib.Core.Path.{_≡_, refl, sym, ap, _∙_}
-use mathlib.Core.Bool.{Bool, true, _&&_, and-eq-true-iff}
+use Prim.Native.Nat.{ℕ, _+_, _-_, _^_, _<_, _≤_}
+use mathlib.Core.Path.{_≡_, sym, ap, _∙_}
 use mathlib.Core.List.{List}
-use mathlib.Core.Logic.{⊎-elim}
-use native.Mathlib.Nat.{le-refl, mod-lt, mod-eq-of-lt, pow-zero}
 use native.Mathlib.Omega.{arith}
-use lib.Dec.{ltb, eqb}
+use lib.Dec.{ltb}
 use lib.ListN.{length}
-use borrow.Author.Tests.{ltb-true, eqb-true, lt-ltb, le-ltb, eq-eqb, ne-eqb}
-use Rattle.answer.specs.Cases.{lt-or-ge, eq-or-ne}
+use borrow.Author.Tests.{ltb-true, lt-ltb}
 use Rattle.answer.specs.Choice.{refuse, refuse-at, done, unless, if-done, unless-done}
 use Rattle.answer.specs.Lengths.{log-of, power-permitted, permitted-log, permitted-range}
-use Rattle.answer.specs.Lists.{at, tabulate, length-tabulate, getD-tabulate}
+use Rattle.answer.specs.Lists.{at, length-tabulate}
 use Rattle.answer.specs.declared.Answer.{Answer}
 use Rattle.fourier.specs.Sizes.{two-halves}
-use Rattle.fourier.specs.Table.{root, wanted, rule, Accepted}
+use Rattle.fourier.specs.Table.{root, Accepted}
 use Rattle.residues.specs.Moduli.{permits, Permitted, permits-permitted, permitted-permits}
 use Rattle.house.specs.declared.Setting.{Setting}
-use Rattle.house.specs.Powers.{power-one, power-next}
+use Rattle.house.specs.Powers.{powers, turns, Turns, turns-facts, facts-turns, powers-root, powers-accepted}
 use Rattle.house.specs.Rows.{row-permitted, root-below, root-turns}
 use Rattle.house.specs.Settings.{root-for, row-setting, root-for-row}
 
 -- ---- definitions
 
--- The powers x^0, .., x^(h-1) modulo m.
-unfoldable pub powers : ℕ → ℕ → ℕ → List ℕ
-powers m x h = tabulate h (λ i. x ^ i % m)
+-- The n of the N = 2^n that a table of h = N/2 entries is for, or 0 where no permitted N has it.
+abbrev pub table-log : ℕ → ℕ
+table-log h = log-of (h + h)
 
--- Whether x is below m, and its power h is m - 1.
-unfoldable pub turns : ℕ → ℕ → ℕ → Bool
-turns m x h = ltb x m && eqb (x ^ h % m) (m - 1)
-
--- The setting's root for N, where a table has h = N/2 entries.
+-- The setting's root for that N.
 abbrev pub root-of-table : Setting → ℕ → ℕ
-root-of-table setting h = root-for setting (log-of (h + h))
+root-of-table setting h = root-for setting (table-log h)
 
 -- The refusals of a table of h entries, in document 01's order.
 abbrev pub verdict : Setting → ℕ → Answer
@@ -42,7 +34,7 @@ verdict setting h =
     -- 2: "m even, below 3, or above 2^31 - 1".
     unless (permits (setting .modulus)) (refuse 2)
     -- 3: "when filling .., not that of any permitted N".
-    (unless (ltb 0 (log-of (h + h))) (refuse 3)
+    (unless (ltb 0 (table-log h)) (refuse 3)
     -- 4: "the setting's root for N is not below m, or its power N/2 isn't m - 1; place N/2".
     (unless (turns (setting .modulus) (root-of-table setting h) h) (refuse-at 4 h) done))
 
@@ -59,68 +51,25 @@ outcome-unique x y = (x .answers ∙ sym (y .answers), x .leaves ∙ sym (y .lea
 -- ---- what it says that nothing is refused
 
 -- The length of a table for a permitted N is N/2.
-pub table-length : (h : ℕ) → 1 ≤ log-of (h + h) → h ≡ 2 ^ (log-of (h + h) - 1)
-table-length h l = let e : h + h ≡ 2 ^ (log-of (h + h) - 1) + 2 ^ (log-of (h + h) - 1) = permitted-log (h + h) l .0 ∙ two-halves (log-of (h + h)) l in omega arith
+pub table-length : (h : ℕ) → 1 ≤ table-log h → h ≡ 2 ^ (table-log h - 1)
+table-length h l = let e : h + h ≡ 2 ^ (table-log h - 1) + 2 ^ (table-log h - 1) = permitted-log (h + h) l .0 ∙ two-halves (table-log h) l in omega arith
 
--- x is below m, and its power h is m - 1.
-pub record Turns (m x h : ℕ) : Type 0 where
-  pub below : x < m
-  pub turn : x ^ h % m ≡ m - 1
-
-pub turns-facts : (m x h : ℕ) → turns m x h ≡ true → Turns m x h
-unfolding turns
-turns-facts m x h e =
-    let both = and-eq-true-iff _ _ .0 e in
-    record { below = ltb-true _ _ (both .0); turn = eqb-true _ _ (both .1) }
-
-pub facts-turns : (m x h : ℕ) → Turns m x h → turns m x h ≡ true
-unfolding turns
-facts-turns m x h r = rw (lt-ltb x m (r .below), eq-eqb (x ^ h % m) (m - 1) (r .turn))
-
+-- No refusal applies.
 pub record Ready (setting : Setting) (h : ℕ) : Type 0 where
   pub modulus : Permitted (setting .modulus)
-  pub permitted : 1 ≤ log-of (h + h)
+  pub permitted : 1 ≤ table-log h
   pub root : Turns (setting .modulus) (root-of-table setting h) h
 
 pub done-ready : (setting : Setting) (h : ℕ) → verdict setting h .number ≡ 0 → Ready setting h
 done-ready setting h e =
     let two = unless-done (permits (setting .modulus)) (refuse 2) _ (omega arith) e in
-    let three = unless-done (ltb 0 (log-of (h + h))) (refuse 3) _ (omega arith) (two .1) in
+    let three = unless-done (ltb 0 (table-log h)) (refuse 3) _ (omega arith) (two .1) in
     let four = unless-done (turns (setting .modulus) (root-of-table setting h) h) (refuse-at 4 h) done (omega arith) (three .1) in
     record { modulus = permits-permitted _ (two .0); permitted = ltb-true _ _ (three .0); root = turns-facts _ _ _ (four .0) }
 
 pub ready-done : (setting : Setting) (h : ℕ) → Ready setting h → verdict setting h ≡ done
 ready-done setting h r =
     rw (permitted-permits _ (r .modulus), lt-ltb _ _ (r .permitted), facts-turns _ _ _ (r .root))
-
--- ---- a table of powers is accepted
-
-module _ (m x h : ℕ) (two : 2 ≤ m) (some : 1 ≤ h) (r : Turns m x h) where
-  abbrev t : ℕ → ℕ
-  t = at (powers m x h)
-
-  entry : (i : ℕ) → i < h → t i ≡ x ^ i % m
-  unfolding powers
-  entry i l = getD-tabulate 0 h (λ i. x ^ i % m) i l
-
-  pub powers-root : root m h t ≡ x
-  unfolding root
-  powers-root =
-      ⊎-elim (λ e. rw (eq-eqb h 1 e) (sym (r .turn) ∙ rw e (power-one (r .below))))
-      (λ ne. rw (ne-eqb h 1 ne) (entry 1 (omega arith) ∙ power-one (r .below))) (eq-or-ne h 1)
-
-  wanted-power : (i : ℕ) → i ≤ h → wanted m h t i ≡ x ^ i % m
-  unfolding wanted
-  wanted-power zero l = rw pow-zero (sym (mod-eq-of-lt two))
-  wanted-power (suc i) l = rw (powers-root, entry i l) (power-next m x i)
-
-  pub powers-accepted : Accepted m h t
-  unfolding rule
-  powers-accepted = record {
-    each = λ i l. ⊎-elim
-        (λ k. rw (lt-ltb i h k, entry i k, wanted-power i (omega arith), lt-ltb (x ^ i % m) m (mod-lt (x ^ i) (omega arith))) (eq-eqb (x ^ i % m) (x ^ i % m) refl))
-        (λ k. let e : i ≡ h = omega arith in rw (le-ltb i h k, e, wanted-power h (le-refl h)) (eq-eqb (x ^ h % m) (m - 1) (r .turn))) (lt-or-ge i h);
-  }
 
 -- ---- theorems
 
@@ -148,7 +97,7 @@ filled {setting} {table} {answer} {left} o e =
 row-done : (row n : ℕ) → row < 3 → 1 ≤ n → n ≤ 12 → verdict (row-setting row) (2 ^ (n - 1)) ≡ done
 unfolding row-setting
 row-done row n h a b =
-    let e : log-of (2 ^ (n - 1) + 2 ^ (n - 1)) ≡ n = rw (← two-halves n a) (power-permitted n a b) in
+    let e : table-log (2 ^ (n - 1)) ≡ n = rw (← two-halves n a) (power-permitted n a b) in
     ready-done (row-setting row) (2 ^ (n - 1)) (record {
       modulus = row-permitted row h;
       permitted = rw e a;

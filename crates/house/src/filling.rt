@@ -9,10 +9,10 @@ use residues::Residue;
 ghost use mathlib.Core.Path.{_≡_};
 ghost use Prim.Native.Nat.{_+_, _-_, _%_, _^_, _≤_, _<_};
 ghost use lib.ListN.{length};
-ghost use Rattle.answer.specs.Lengths.{log-of};
 ghost use Rattle.residues.specs.Moduli.{Permitted};
+ghost use Rattle.house.specs.Powers.{powers, turns};
 ghost use Rattle.house.specs.Settings.{root-for};
-ghost use Rattle.house.specs.Filling.{turns, powers, verdict, Outcome};
+ghost use Rattle.house.specs.Filling.{table-log, verdict, Outcome};
 
 // Fills a table with the powers of the setting's root for N, where the table has N/2 entries. Refusals 2, 3 and 4; they change nothing.
 pub fn fill(setting: Setting, table: &mut [u32]) -> Answer
@@ -63,7 +63,7 @@ fn judge(setting: Setting, len: usize) -> Answer
 
 // The n of the length 2^n that a table of `len` entries is for, or 0 where there is none.
 fn table_log(len: usize) -> usize
-    ensures { λ r. ⌜ r ≡ log-of (len + len) ⌝ }
+    ensures { λ r. ⌜ r ≡ table-log len ⌝ }
 {
     if 2048 < len {
         return 0;

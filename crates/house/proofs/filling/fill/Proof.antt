@@ -1,5 +1,5 @@
 -- Done leaves the powers of the root that was judged, and a refusal has written nothing.
-use mathlib.Core.Path.{_≡_, sym, ap, _∙_}
+use mathlib.Core.Path.{_≡_, ap, _∙_}
 use native.Mathlib.Omega.{arith}
 use lib.ListN.{length}
 use Rattle.answer.specs.Lengths.{permitted-log}

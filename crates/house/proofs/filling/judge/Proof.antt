@@ -1,14 +1,14 @@
 -- Each test rewrites its line of the verdict.
-use Prim.Native.Nat.{_+_, _≤_}
+use Prim.Native.Nat.{_≤_}
 use mathlib.Core.Path.{_≡_, sym, _∙_}
 use mathlib.Core.Bool.{true, false}
 use native.Mathlib.Omega.{arith}
 use borrow.Author.Needs.{needs}
 use borrow.Author.Tests.{not-true, not-false, lt-ltb}
 use Rattle.answer.specs.Choice.{refuse-at, done, unless}
-use Rattle.answer.specs.Lengths.{log-of, permitted-log}
+use Rattle.answer.specs.Lengths.{permitted-log}
 use Rattle.residues.specs.Moduli.{permits, permits-permitted}
-use Rattle.house.specs.Filling.{verdict, table-length}
+use Rattle.house.specs.Filling.{table-log, verdict, table-length}
 use Rattle.house.proofs.filling.judge.Statement.{statement}
 use Rattle.house.proofs.filling.judge.Tie as tie
 
@@ -18,7 +18,7 @@ modulus-passed c =
     let e : c .before .before .permitted .result ≡ true = search not-false in
     sym (c .before .before .permitted .ensures) ∙ e
 
-length-passed : (c : tie.Else2) → (let len = c .before .before .before .before .args .len in 1 ≤ log-of (len + len))
+length-passed : (c : tie.Else2) → 1 ≤ table-log (c .before .before .before .before .args .len)
 length-passed c = let e = c .before .before .table-log .ensures in let ne = c .if2 .left in omega (arith, ne)
 
 root-left : (c : tie.After-turns)

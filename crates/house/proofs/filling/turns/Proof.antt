@@ -2,7 +2,7 @@
 use Prim.Native.Nat.{_≤_}
 use native.Mathlib.Omega.{arith}
 use borrow.Author.Tests.{lt-ltb, le-ltb}
-use Rattle.house.specs.Filling.{turns}
+use Rattle.house.specs.Powers.{turns}
 use borrow.Author.Needs.{needs}
 use Rattle.house.proofs.filling.turns.Statement.{statement}
 use Rattle.house.proofs.filling.turns.Tie as tie

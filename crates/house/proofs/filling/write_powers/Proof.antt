@@ -7,8 +7,7 @@ use native.Mathlib.Omega.{arith}
 use lib.ListN.{length}
 use Rattle.answer.specs.Lists.{at, listed, holds-self}
 use Rattle.answer.proofs.Writes.{Written, written-none, written-next, written-all}
-use Rattle.house.specs.Powers.{power-next}
-use Rattle.house.specs.Filling.{powers}
+use Rattle.house.specs.Powers.{powers, power-next}
 use borrow.Author.Needs.{needs}
 use Rattle.house.proofs.filling.write_powers.Statement.{statement}
 use Rattle.house.proofs.filling.write_powers.Tie as tie
