@@ -60,7 +60,7 @@ fn opposite(e: Exponent, half: usize) -> Exponent
 }
 
 // The step on a pair, at the exponent e.
-fn pair(way: Way, a: Residue, b: Residue, table: &[u32], e: Exponent, m: Modulus) -> Parts
+pub fn pair(way: Way, a: Residue, b: Residue, table: &[u32], e: Exponent, m: Modulus) -> Parts
     requires { ⌜ Permitted (m .value) ⌝ }
     requires { ⌜ (Below (m .value) (now table)) × (length (now table) ≤ 2048) ⌝ }
     requires { ⌜ e .0 < length (now table) ⌝ }
