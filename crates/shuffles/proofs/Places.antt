@@ -1,13 +1,20 @@
--- A stage by shuffle pair by pair, as a loop over lists does it.
-use Prim.Native.Nat.{ℕ, _+_, _-_, _*_, _^_, _<_}
+-- A stage by shuffle pair by pair, and stage after stage, as loops over lists do them.
+use Prim.Native.Nat.{ℕ, _+_, _*_, _^_, _<_}
 use mathlib.Core.Path.{_≡_, sym, ap, _∙_}
 use mathlib.Core.List.{List}
 use native.Mathlib.Nat.{add-zero}
 use native.Mathlib.Omega.{arith}
-use lib.ListN.{set}
+use lib.ListN.{length, set}
+use Rattle.answer.specs.Lists.{at, tabulate}
 use Rattle.answer.proofs.Writes.{Written, written-next}
 use Rattle.fourier.specs.Schedules.{Wing, Buffer, shuffled, step}
 use Rattle.fourier.specs.Sentences.{shuffled-pair}
+use Rattle.fourier.specs.Sizes.{two-halves}
+use Rattle.fourier.specs.Blocks.{shuffled-within}
+use Rattle.butterflies.specs.Ways.{wing}
+use Rattle.butterflies.specs.declared.Way.{Way}
+use Rattle.butterflies.proofs.Going.{Going, going-next}
+use Rattle.shuffles.specs.Stages.{stages}
 
 module _ (w : Wing ℕ) (half : ℕ) (e : ℕ → ℕ) (d : Buffer ℕ) where
   -- What places 2k and 2k + 1 receive.
@@ -21,3 +28,8 @@ module _ (w : Wing ℕ) (half : ℕ) (e : ℕ → ℕ) (d : Buffer ℕ) where
       let low = rw add-zero at (place k 0 (omega arith)) in
       let next : 2 * k + 1 + 1 ≡ 2 * (k + 1) = omega arith in
       rw (← next) (written-next (written-next r (omega arith) (ex ∙ rw (eh, ei) (sym low))) room (ey ∙ rw (eh, ei) (sym (place k 1 (omega arith)))))
+
+-- Stage s is done, from one buffer into the other.
+pub turn-next : {way : Way} {m n s : ℕ} {t l₀ l l′ : List ℕ} → Going way m t l₀ (stages way n) s l → s < n → length l₀ ≡ 2 ^ n →
+    l′ ≡ tabulate (length l) (step (wing way m (length t) (at t)) (stages way n s) (at l)) → Going way m t l₀ (stages way n) (s + 1) l′
+turn-next {n = n} r h e made = going-next r (rw (e, two-halves n (omega arith)) (shuffled-within _ _)) made
