@@ -1,6 +1,6 @@
 -- The exponents of a stage lie in the table, and follow each other from pair to pair.
-use Prim.Native.Nat.{ℕ, zero, suc, _+_, _-_, _*_, _/_, _%_, _^_, _<_, _≤_}
-use mathlib.Core.Path.{_≡_, refl, sym, ap, _∙_}
+use Prim.Native.Nat.{ℕ, zero, suc, _-_, _*_, _/_, _%_, _^_, _<_, _≤_}
+use mathlib.Core.Path.{_≡_, refl}
 use mathlib.Core.Logic.{⊎-elim}
 use native.Mathlib.Nat.{mul-zero, mul-lt-mul-of-pos-left, mod-eq-of-lt, div-add-mod'}
 use native.Mathlib.Omega.{arith}

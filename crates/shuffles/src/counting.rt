@@ -1,20 +1,21 @@
 // The exponents of a stage, pair after pair.
 use butterflies::Way;
+use residues::Exponent;
 ghost use mathlib.Core.Path.{_≡_};
 ghost use Prim.Native.Nat.{suc, _+_, _-_, _*_, _^_, _≤_, _<_};
 ghost use Rattle.fourier.specs.Reverse.{rev};
 ghost use Rattle.shuffles.specs.Stages.{exponents};
 
 // The exponent of pair k + 1, where e is that of pair k.
-pub fn next(way: Way, e: usize, k: usize, n: usize, s: usize) -> usize
+pub fn next(way: Way, e: Exponent, k: usize, n: usize, s: usize) -> Exponent
     requires { ⌜ (s < n) × (n ≤ 12) × (k < 2048) ⌝ }
-    requires { ⌜ e ≡ exponents way n s k ⌝ }
-    ensures { λ r. ⌜ r ≡ exponents way n s (k + 1) ⌝ }
+    requires { ⌜ e .0 ≡ exponents way n s k ⌝ }
+    ensures { λ r. ⌜ r .0 ≡ exponents way n s (k + 1) ⌝ }
 {
     if let Way::Frequency = way {
-        (k + 1) >> s << s
+        Exponent((k + 1) >> s << s)
     } else {
-        reversed(e, k, n, s)
+        Exponent(reversed(e.0, k, n, s))
     }
 }
 

@@ -22,12 +22,12 @@ pub fn stage(from: &[u32], to: &mut [u32], table: &[u32], m: Modulus, way: Way, 
         (step (wing way (m .value) (length (now (table .entry))) (at (now (table .entry)))) (stages way n s) (at (now (from .entry)))) ⌝ }
 {
     let half = table.len();
-    let mut e = 0;
+    let mut e = Exponent(0);
     let mut k = 0;
     while k < half {
         let a = Residue(from[k]);
         let b = Residue(from[k + half]);
-        let parts = butterflies::pair(way, a, b, table, Exponent(e), m);
+        let parts = butterflies::pair(way, a, b, table, e, m);
         to[2 * k] = parts.0;
         to[2 * k + 1] = parts.1;
         e = counting::next(way, e, k, n, s);

@@ -1,5 +1,5 @@
 use Prim.Native.Nat.{suc, _+_, _-_, _^_}
-use mathlib.Core.Path.{_≡_, sym, _∙_}
+use mathlib.Core.Path.{sym, _∙_}
 use native.Mathlib.Nat.{one-mul, mod-eq-of-lt}
 use native.Mathlib.Omega.{arith}
 use Rattle.fourier.specs.Sizes.{half-buffer}

@@ -2,7 +2,7 @@ use Prim.Native.Nat.{_≤_, _-_}
 use mathlib.Core.Path.{refl, _∙_}
 use native.Mathlib.Omega.{arith}
 use lib.ListN.{length}
-use Rattle.answer.specs.Lists.{at, listed, holds-self, tabulate-self}
+use Rattle.answer.specs.Lists.{at, listed, tabulate-self}
 use Rattle.answer.proofs.Writes.{Written, written-none, written-next, written-all}
 use borrow.Author.Needs.{needs}
 use Rattle.shuffles.proofs.moves.copy.Statement.{statement}

@@ -2,7 +2,7 @@ use Prim.Native.Nat.{_≤_, _-_, _+_, _*_}
 use mathlib.Core.Path.{_≡_, refl}
 use native.Mathlib.Omega.{arith}
 use lib.ListN.{length, length-set}
-use Rattle.answer.specs.Lists.{at, listed, holds-self}
+use Rattle.answer.specs.Lists.{at, listed}
 use Rattle.answer.proofs.Writes.{Written, written-none, written-all}
 use Rattle.fourier.specs.Schedules.{step}
 use Rattle.fourier.specs.Sizes.{two-halves}
@@ -20,7 +20,7 @@ use Rattle.shuffles.proofs.counting.next.Reads as next-reads
 
 abbrev Inv-loop : tie.InvT-loop
 Inv-loop from to₀ table m way n s half e₀ k₀ to e k =
-    (k ≤ half) × (e ≡ exponents way n s k) × Written 0 to (length from) (2 * k) (step (wing way (m .value) (length table) (at table)) (stages way n s) (at from)) (at to₀)
+    (k ≤ half) × (e .0 ≡ exponents way n s k) × Written 0 to (length from) (2 * k) (step (wing way (m .value) (length table) (at table)) (stages way n s) (at from)) (at to₀)
 
 abbrev μ-loop : tie.MeasureT-loop
 μ-loop from to₀ table m way n s half e₀ k₀ to e k = half - k
