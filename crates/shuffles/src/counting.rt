@@ -2,7 +2,7 @@
 use butterflies::Way;
 use residues::Exponent;
 ghost use mathlib.Core.Path.{_≡_};
-ghost use Prim.Native.Nat.{suc, _+_, _-_, _*_, _^_, _≤_, _<_};
+ghost use Prim.Native.Nat.{suc, _+_, _-_, _*_, _%_, _^_, _≤_, _<_};
 ghost use Rattle.fourier.specs.Reverse.{rev};
 ghost use Rattle.shuffles.specs.Stages.{exponents};
 
@@ -13,10 +13,18 @@ pub fn next(way: Way, e: Exponent, k: usize, n: usize, s: usize) -> Exponent
     ensures { λ r. ⌜ r .0 ≡ exponents way n s (k + 1) ⌝ }
 {
     if let Way::Frequency = way {
-        Exponent((k + 1) >> s << s)
+        Exponent(multiple(k + 1, s))
     } else {
         Exponent(reversed(e.0, k, n, s))
     }
+}
+
+// Schedule 2's "k - (k mod 2^s)".
+fn multiple(k: usize, s: usize) -> usize
+    requires { ⌜ s < 64 ⌝ }
+    ensures { λ r. ⌜ r ≡ k - k % 2 ^ s ⌝ }
+{
+    k >> s << s
 }
 
 // Counting with the low s bits of k reversed, below bit n - 1: from the top down ones become zeros, and the first zero a one.

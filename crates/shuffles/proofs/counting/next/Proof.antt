@@ -1,29 +1,25 @@
 use Prim.Native.Nat.{_+_}
 use mathlib.Core.Path.{sym, _∙_}
-use native.Mathlib.Omega.{arith}
-use Rattle.shuffles.proofs.Exponents.{exponents-reversed, shifted}
+use Rattle.shuffles.proofs.Exponents.{exponents-reversed}
 use borrow.Author.Needs.{needs}
 use Rattle.shuffles.proofs.counting.next.Statement.{statement}
 use Rattle.shuffles.proofs.counting.next.Tie as tie
 use Rattle.shuffles.proofs.counting.next.Reads as reads
 use Rattle.shuffles.proofs.counting.next.Lts as lts
+use Rattle.shuffles.proofs.counting.multiple.Reads as multiple-reads
 use Rattle.shuffles.proofs.counting.reversed.Reads as reversed-reads
 
--- src/counting.rt:16:19
+-- src/counting.rt:16:27
 enum-told : tie.Need-enum-told
 enum-told c = search needs
 
--- src/counting.rt:16:19
-add-t7 : tie.Need-add-t7
-add-t7 c = search needs
+-- src/counting.rt:16:27
+add-multiple : tie.Need-add-multiple
+add-multiple c = search needs
 
 -- src/counting.rt:16:18
-shr-t8 : tie.Need-shr-t8
-shr-t8 c = search needs
-
--- src/counting.rt:16:18
-shl-t9 : tie.Need-shl-t9
-shl-t9 c = search needs
+multiple-requires : tie.Need-multiple-requires
+multiple-requires c κs = search needs
 
 -- src/counting.rt:18:18
 reversed-requires : tie.Need-reversed-requires
@@ -33,9 +29,7 @@ reversed-requires c κs =
 
 -- src/counting.rt:10:1
 returns : tie.Need-returns
-returns c =
-    let s = c .before .before in
-    rw (c .enum-told .given .1) (shifted (s .args .k + 1) (s .args .s) 64 (omega arith))
+returns c = rw (c .before .enum-told .given .1) (c .multiple .ensures)
 
 -- src/counting.rt:10:1
 returns-2 : tie.Need-returns-2
@@ -44,4 +38,6 @@ returns-2 c =
     c .reversed .ensures ∙ sym (exponents-reversed (s .args .way) (c .before .match .keys2) (s .args .n) (s .args .s) (s .args .k + 1))
 
 pub next-spec : {M : Type 1} → statement M
-next-spec = tie.close (tie.spec enum-told add-t7 shr-t8 shl-t9 reversed-requires returns returns-2)
+next-spec =
+    tie.close
+    (tie.spec enum-told add-multiple multiple-requires reversed-requires returns returns-2)
