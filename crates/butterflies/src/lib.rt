@@ -12,7 +12,7 @@ ghost use Rattle.residues.specs.Moduli.{Permitted};
 ghost use Rattle.residues.specs.Judgement.{Below, Judged};
 ghost use Rattle.butterflies.specs.Ways.{wing};
 
-// How a pair is taken: as schedules 1 and 3 do, as schedule 4 does, and as the inverse does.
+// How a pair is taken: as schedules 1, 2 and 3 do, as schedules 4 and 5 do, and as the inverse does.
 pub enum Way {
     Frequency,
     Time,

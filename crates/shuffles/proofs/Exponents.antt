@@ -2,9 +2,9 @@
 use Prim.Native.Nat.{ℕ, zero, suc, _-_, _*_, _/_, _%_, _^_, _<_, _≤_}
 use mathlib.Core.Path.{_≡_, refl}
 use mathlib.Core.Logic.{⊎-elim}
+use mathlib.Core.List.{[], _∷_}
 use native.Mathlib.Nat.{mul-zero, mul-lt-mul-of-pos-left, mod-eq-of-lt, div-add-mod'}
 use native.Mathlib.Omega.{arith}
-use mathlib.Core.List.{[], _∷_}
 use lib.Pow.{pow-pos, pow-mono}
 use types.Run.{OneOf}
 use denote.Enum.Declared.{tagOf}
@@ -24,6 +24,7 @@ twelve n h = ⊎-elim (λ l. let k : 2 ^ 12 ≤ 2 ^ (n - 1) = pow-mono {i = 12} 
 pub half-small : (n : ℕ) → n ≤ 12 → 2 ^ (n - 1) ≤ 2048
 half-small n l = pow-mono {j = 11} (omega arith)
 
+-- The exponents lie in the table.
 module _ (n s : ℕ) (l : s < n) where
   pub reversed-below : (j : ℕ) → 2 ^ (n - suc s) * rev s j < 2 ^ (n - 1)
   reversed-below j = rw (half-buffer l) at (mul-lt-mul-of-pos-left (rev-lt s j) (pow-pos (n - suc s)))
@@ -33,7 +34,7 @@ module _ (n s : ℕ) (l : s < n) where
   exponents-below Time k h = reversed-below (k % 2 ^ s)
   exponents-below Back k h = reversed-below (k % 2 ^ s)
 
--- Where the second is multiplied.
+-- Where the second is multiplied, whatever stands above the low s bits of k.
 pub exponents-reversed : (way : Way) → OneOf (1 ∷ 2 ∷ []) (tagOf the-type way) → (n s k : ℕ) → exponents way n s k ≡ 2 ^ (n - suc s) * rev s k
 exponents-reversed Frequency other n s k = absurd (⊎-elim (λ e. omega arith) (λ e. omega arith) other)
 exponents-reversed Time other n s k = rw rev-mod
@@ -50,6 +51,6 @@ exponents-first Frequency n s = omega arith
 exponents-first Time n s = rw (rev-mod, rev-zero, mul-zero)
 exponents-first Back n s = rw (rev-mod, rev-zero, mul-zero)
 
--- There and back by s bits.
+-- Shifted by s bits there and back, in w bits.
 pub shifted : (k s w : ℕ) → k < 2 ^ w → k / 2 ^ s * 2 ^ s % 2 ^ w ≡ k - k % 2 ^ s
 shifted k s w h = let e = div-add-mod' k (2 ^ s) in rw (mod-eq-of-lt {n = k / 2 ^ s * 2 ^ s} {m = 2 ^ w} (omega arith)) (omega arith)
