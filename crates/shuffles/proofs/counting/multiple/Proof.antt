@@ -1,3 +1,4 @@
+-- Shifted there and back, k has lost its low s bits.
 use native.Mathlib.Omega.{arith}
 use Rattle.shuffles.proofs.Exponents.{shifted}
 use borrow.Author.Needs.{needs}

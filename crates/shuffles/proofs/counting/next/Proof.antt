@@ -1,3 +1,4 @@
+-- At Frequency the multiple of 2^s, elsewhere the count in reverse.
 use Prim.Native.Nat.{_+_}
 use mathlib.Core.Path.{sym, _∙_}
 use Rattle.shuffles.proofs.Exponents.{exponents-reversed}

@@ -1,3 +1,4 @@
+-- The bits that are left count on as all s bits do, until one of them is a zero.
 use Prim.Native.Nat.{suc, _+_, _-_, _^_}
 use mathlib.Core.Path.{sym, _∙_}
 use native.Mathlib.Nat.{one-mul, mod-eq-of-lt}

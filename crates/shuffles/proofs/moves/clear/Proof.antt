@@ -1,3 +1,4 @@
+-- In front of place p all is zero.
 use Prim.Native.Nat.{_≤_, _-_}
 use mathlib.Core.Path.{refl}
 use native.Mathlib.Omega.{arith}

@@ -1,3 +1,4 @@
+-- In front of place p all is copied.
 use Prim.Native.Nat.{_≤_, _-_}
 use mathlib.Core.Path.{refl, _∙_}
 use native.Mathlib.Omega.{arith}

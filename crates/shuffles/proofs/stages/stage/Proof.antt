@@ -1,3 +1,4 @@
+-- The pairs in front of k are done, and e is the exponent of pair k.
 use Prim.Native.Nat.{_≤_, _-_, _+_, _*_}
 use mathlib.Core.Path.{_≡_, refl}
 use native.Mathlib.Omega.{arith}

@@ -1,3 +1,4 @@
+-- The buffer holds what the schedule has after s stages, and so does scratch in the middle of a turn.
 use Prim.Native.Nat.{_≤_, _-_, _+_, _^_}
 use mathlib.Core.Path.{_≡_, sym, ap, _∙_}
 use native.Mathlib.Omega.{arith}

@@ -1,3 +1,4 @@
+-- What the stage leaves in scratch is copied to the buffer.
 use mathlib.Core.Path.{ap, _∙_}
 use Rattle.shuffles.specs.Stages.{zeros}
 use borrow.Author.Needs.{needs}
