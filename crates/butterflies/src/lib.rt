@@ -12,7 +12,7 @@ ghost use Rattle.residues.specs.Moduli.{Permitted};
 ghost use Rattle.residues.specs.Judgement.{Below, Judged};
 ghost use Rattle.butterflies.specs.Ways.{wing};
 
-// How a pair is taken: as schedules 1 and 3 do, as schedule 4 does, and as the inverse does.
+// How a pair is taken: as schedules 1, 2 and 3 do, as schedules 4 and 5 do, and as the inverse does.
 pub enum Way {
     Frequency,
     Time,
@@ -60,7 +60,7 @@ fn opposite(e: Exponent, half: usize) -> Exponent
 }
 
 // The step on a pair, at the exponent e.
-fn pair(way: Way, a: Residue, b: Residue, table: &[u32], e: Exponent, m: Modulus) -> Parts
+pub fn pair(way: Way, a: Residue, b: Residue, table: &[u32], e: Exponent, m: Modulus) -> Parts
     requires { ⌜ Permitted (m .value) ⌝ }
     requires { ⌜ (Below (m .value) (now table)) × (length (now table) ≤ 2048) ⌝ }
     requires { ⌜ e .0 < length (now table) ⌝ }

@@ -1,0 +1,4 @@
+-- Laws that serve proofs of code.
+pub mod Reversal
+pub mod Exponents
+pub mod Places

@@ -1,0 +1,10 @@
+// Schedules 2 and 5 over residues: stages from one buffer into the other.
+mod counting;
+mod moves;
+mod stages;
+mod turns;
+
+pub use stages::stage;
+pub use turns::by_pease;
+pub use turns::by_shuffle;
+pub use turns::single;
