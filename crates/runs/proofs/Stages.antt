@@ -7,9 +7,9 @@ use native.Mathlib.Numerals.{add-one}
 use native.Mathlib.Omega.{arith}
 use lib.ListN.{length}
 use lib.Pow.{pow-pos, pow-add}
-use Rattle.answer.specs.Lists.{at, tabulate, holds, holds-every}
+use Rattle.answer.specs.Lists.{at, tabulate, Holds, holds, holds-every}
 use Rattle.fourier.specs.Sizes.{rows, two-halves}
-use Rattle.fourier.specs.Schedules.{Stage, butterfly, step}
+use Rattle.fourier.specs.Schedules.{Stage, Buffer, butterfly, step}
 use Rattle.fourier.specs.Blocks.{Ran, ran-none, ran-next, butterfly-within}
 use Rattle.residues.specs.Judgement.{Judged}
 use Rattle.butterflies.specs.Ways.{wing}
@@ -49,6 +49,10 @@ fits {n} {stride = stride} {h = h} a b e es eh el et =
 
 -- ---- stage after stage
 
+-- What holds residues is judged as the samples were.
+pub judged-next : {m : ℕ} {t l₀ l : List ℕ} {N : ℕ} {f : Buffer ℕ} → Judged m t l₀ → Holds 0 l N f → ((p : ℕ) → f p < m) → Judged m t l
+judged-next {m} r held below = record { modulus = r .modulus; entries = r .entries; values = record { each = holds-every (λ v. v < m) held (omega arith) (λ p g. below p) }; small = r .small }
+
 -- Of the samples l₀ the list holds, in residues, what the schedule σ has after s stages.
 pub record Going (way : Way) (m : ℕ) (t l₀ : List ℕ) (σ : ℕ → Stage) (s : ℕ) (l : List ℕ) : Type 0 where
   pub judged : Judged m t l
@@ -65,11 +69,6 @@ module _ {way : Way} {m : ℕ} {t : List ℕ} {σ : ℕ → Stage} where
       let judged = r .judged in
       let pos : 0 < m = omega arith in
       record {
-        judged = record {
-          modulus = judged .modulus;
-          entries = judged .entries;
-          values = record { each = holds-every (λ v. v < m) {l = l′} (holds e) pos (λ p g. wing-below way m (length t) (at t) _ _ _ _ pos) };
-          small = judged .small;
-        };
+        judged = judged-next judged (holds {l = l′} e) (λ p. wing-below way m (length t) (at t) _ _ _ _ pos);
         ran = ran-next (r .ran) (rw (same, k .buffer) (butterfly-within stride h stride)) (rw same e);
       }
