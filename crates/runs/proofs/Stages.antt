@@ -1,5 +1,5 @@
 -- The sizes of the stages of a schedule in place, and what the buffer holds while stage after stage is done.
-use Prim.Native.Nat.{ℕ, suc, _+_, _-_, _*_, _/_, _^_, _<_, _≤_}
+use Prim.Native.Nat.{ℕ, zero, suc, _+_, _-_, _*_, _/_, _^_, _<_, _≤_}
 use mathlib.Core.Path.{_≡_, refl}
 use mathlib.Core.List.{List}
 use native.Mathlib.Nat.{two-pow-succ, mul-le-mul-left, mul-le-mul-right, sub-zero}
@@ -9,7 +9,7 @@ use lib.ListN.{length}
 use lib.Pow.{pow-pos, pow-add}
 use Rattle.answer.specs.Lists.{at, tabulate, Holds, holds, holds-every}
 use Rattle.fourier.specs.Sizes.{rows, two-halves}
-use Rattle.fourier.specs.Schedules.{Stage, Buffer, butterfly, step}
+use Rattle.fourier.specs.Schedules.{Stage, Buffer, butterfly, step, run}
 use Rattle.fourier.specs.Blocks.{Ran, ran-none, ran-next, butterfly-within}
 use Rattle.residues.specs.Judgement.{Judged}
 use Rattle.butterflies.specs.Ways.{wing}
@@ -72,3 +72,9 @@ module _ {way : Way} {m : ℕ} {t : List ℕ} {σ : ℕ → Stage} where
         judged = judged-next judged (holds {l = l′} e) (λ p. wing-below way m (length t) (at t) _ _ _ _ pos);
         ran = ran-next (r .ran) (rw (same, k .buffer) (butterfly-within stride h stride)) (rw same e);
       }
+
+-- What one or more stages over residues leave is judged as the samples were.
+pub run-judged : (way : Way) {m : ℕ} {t l₀ l : List ℕ} (σ : ℕ → Stage) (n N : ℕ) (d : Buffer ℕ) → Judged m t l₀ → 1 ≤ n → l ≡ tabulate N (run (wing way m (length t) (at t)) σ n d) → Judged m t l
+unfolding run
+run-judged way σ zero N d judged some e = absurd (omega arith)
+run-judged way {m} {t} {l = l} σ (suc n) N d judged some e = let pos : 0 < m = omega arith in judged-next judged (holds {l = l} e) (λ p. wing-below way m (length t) (at t) _ _ _ _ pos)

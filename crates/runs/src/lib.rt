@@ -1,8 +1,13 @@
-// Whole schedules over residues, stage after stage.
+// Whole schedules over residues, stage after stage; the inverse; bit reversal.
 mod columns;
 mod halves;
+mod inverse;
+mod reversal;
 mod thong;
 
 pub use columns::by_columns;
 pub use halves::by_halves;
+pub use inverse::invert;
+pub use reversal::reverse;
+pub use reversal::reversed;
 pub use thong::by_thong;
