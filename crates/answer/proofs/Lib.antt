@@ -3,3 +3,4 @@ pub mod Powers
 pub mod Writes
 pub mod Parts
 pub mod Pairs
+pub mod Swaps

@@ -1,2 +1,4 @@
 -- Laws that serve proofs of code.
 pub mod Stages
+pub mod ByHalves
+pub mod Bits

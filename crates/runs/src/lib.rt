@@ -1,5 +1,14 @@
-// Whole schedules over residues, stage after stage.
+// Whole schedules over residues, stage after stage; single stages; the inverse; bit reversal.
 mod columns;
+mod halves;
+mod inverse;
+mod reversal;
+mod thong;
 
 pub use columns::by_columns;
 pub use columns::column_stage;
+pub use halves::by_halves;
+pub use inverse::invert;
+pub use reversal::reverse;
+pub use reversal::reversed;
+pub use thong::by_thong;
