@@ -4,13 +4,17 @@ use mathlib.Core.Path.{_≡_}
 use mathlib.Core.List.{List}
 use native.Mathlib.Omega.{arith}
 use lib.ListN.{length}
-use Rattle.answer.specs.Lists.{at, tabulate, holds, holds-every}
-use Rattle.fourier.specs.Schedules.{Stage, step}
+use Rattle.answer.specs.Lists.{at, tabulate, Holds, holds, holds-every}
+use Rattle.fourier.specs.Schedules.{Buffer, Stage, step}
 use Rattle.fourier.specs.Blocks.{Within, Ran, ran-none, ran-next}
 use Rattle.residues.specs.Judgement.{Judged}
 use Rattle.butterflies.specs.Ways.{wing}
 use Rattle.butterflies.specs.declared.Way.{Way}
 use Rattle.butterflies.proofs.Blocks.{wing-below}
+
+-- What holds residues is judged as the samples were.
+pub judged-next : {m : ℕ} {t l₀ l : List ℕ} {N : ℕ} {f : Buffer ℕ} → Judged m t l₀ → Holds 0 l N f → ((p : ℕ) → f p < m) → Judged m t l
+judged-next {m} r held below = record { modulus = r .modulus; entries = r .entries; values = record { each = holds-every (λ v. v < m) held (omega arith) (λ p g. below p) }; small = r .small }
 
 -- Of the samples l₀ the list holds, in residues, what the schedule σ has after s stages.
 pub record Going (way : Way) (m : ℕ) (t l₀ : List ℕ) (σ : ℕ → Stage) (s : ℕ) (l : List ℕ) : Type 0 where
@@ -26,12 +30,4 @@ module _ {way : Way} {m : ℕ} {t : List ℕ} {σ : ℕ → Stage} where
   going-next {l′ = l′} r within e =
       let judged = r .judged in
       let pos : 0 < m = omega arith in
-      record {
-        judged = record {
-          modulus = judged .modulus;
-          entries = judged .entries;
-          values = record { each = holds-every (λ v. v < m) {l = l′} (holds e) pos (λ p g. wing-below way m (length t) (at t) _ _ _ _ pos) };
-          small = judged .small;
-        };
-        ran = ran-next (r .ran) within e;
-      }
+      record { judged = judged-next judged (holds {l = l′} e) (λ p. wing-below way m (length t) (at t) _ _ _ _ pos); ran = ran-next (r .ran) within e }

@@ -17,7 +17,7 @@ use Rattle.residues.specs.Judgement.{Judged}
 use Rattle.butterflies.specs.Ways.{wing}
 use Rattle.butterflies.specs.declared.Way.{Way}
 use Rattle.butterflies.proofs.Blocks.{wing-below}
-use Rattle.runs.proofs.Stages.{judged-next}
+use Rattle.butterflies.proofs.Going.{judged-next}
 
 -- ---- sizes
 

@@ -7,14 +7,15 @@ use native.Mathlib.Numerals.{add-one}
 use native.Mathlib.Omega.{arith}
 use lib.ListN.{length}
 use lib.Pow.{pow-pos, pow-add}
-use Rattle.answer.specs.Lists.{at, tabulate, Holds, holds, holds-every}
+use Rattle.answer.specs.Lists.{at, tabulate, holds}
 use Rattle.fourier.specs.Sizes.{rows, two-halves}
 use Rattle.fourier.specs.Schedules.{Stage, Buffer, butterfly, step, run}
-use Rattle.fourier.specs.Blocks.{Ran, ran-none, ran-next, butterfly-within}
+use Rattle.fourier.specs.Blocks.{butterfly-within}
 use Rattle.residues.specs.Judgement.{Judged}
 use Rattle.butterflies.specs.Ways.{wing}
 use Rattle.butterflies.specs.declared.Way.{Way}
 use Rattle.butterflies.proofs.Blocks.{wing-below}
+use Rattle.butterflies.proofs.Going.{judged-next, Going, going-next}
 
 -- ---- sizes
 
@@ -49,29 +50,10 @@ fits {n} {stride = stride} {h = h} a b e es eh el et =
 
 -- ---- stage after stage
 
--- What holds residues is judged as the samples were.
-pub judged-next : {m : ℕ} {t l₀ l : List ℕ} {N : ℕ} {f : Buffer ℕ} → Judged m t l₀ → Holds 0 l N f → ((p : ℕ) → f p < m) → Judged m t l
-judged-next {m} r held below = record { modulus = r .modulus; entries = r .entries; values = record { each = holds-every (λ v. v < m) held (omega arith) (λ p g. below p) }; small = r .small }
-
--- Of the samples l₀ the list holds, in residues, what the schedule σ has after s stages.
-pub record Going (way : Way) (m : ℕ) (t l₀ : List ℕ) (σ : ℕ → Stage) (s : ℕ) (l : List ℕ) : Type 0 where
-  pub judged : Judged m t l
-  pub ran : Ran 0 (wing way m (length t) (at t)) σ (length l₀) (at l₀) s l
-
-module _ {way : Way} {m : ℕ} {t : List ℕ} {σ : ℕ → Stage} where
-  pub going-none : {l : List ℕ} → Judged m t l → Going way m t l σ 0 l
-  going-none {l} r = record { judged = r; ran = ran-none l }
-
-  -- Stage s is done.
-  pub going-next : {l₀ l l′ : List ℕ} {s stride h : ℕ} → Going way m t l₀ σ s l → Fits (length l₀) (length t) stride h → σ s ≡ butterfly stride h →
-      l′ ≡ tabulate (length l) (step (wing way m (length t) (at t)) (butterfly stride h) (at l)) → Going way m t l₀ σ (s + 1) l′
-  going-next {l′ = l′} {stride = stride} {h = h} r k same e =
-      let judged = r .judged in
-      let pos : 0 < m = omega arith in
-      record {
-        judged = judged-next judged (holds {l = l′} e) (λ p. wing-below way m (length t) (at t) _ _ _ _ pos);
-        ran = ran-next (r .ran) (rw (same, k .buffer) (butterfly-within stride h stride)) (rw same e);
-      }
+-- Stage s is done, in place.
+pub butterfly-next : {way : Way} {m : ℕ} {t l₀ l l′ : List ℕ} {σ : ℕ → Stage} {s stride h : ℕ} → Going way m t l₀ σ s l → Fits (length l₀) (length t) stride h → σ s ≡ butterfly stride h →
+    l′ ≡ tabulate (length l) (step (wing way m (length t) (at t)) (butterfly stride h) (at l)) → Going way m t l₀ σ (s + 1) l′
+butterfly-next {stride = stride} {h = h} r k same e = going-next r (rw (same, k .buffer) (butterfly-within stride h stride)) (rw same e)
 
 -- What one or more stages over residues leave is judged as the samples were.
 pub run-judged : (way : Way) {m : ℕ} {t l₀ l : List ℕ} (σ : ℕ → Stage) (n N : ℕ) (d : Buffer ℕ) → Judged m t l₀ → 1 ≤ n → l ≡ tabulate N (run (wing way m (length t) (at t)) σ n d) → Judged m t l

@@ -6,7 +6,8 @@ use lib.ListN.{length}
 use Rattle.fourier.specs.Schedules as schedules
 use Rattle.fourier.specs.Blocks.{ran-all}
 use Rattle.butterflies.specs.declared.Way.the-variants.{Frequency}
-use Rattle.runs.proofs.Stages.{Sized, sized-none, sized-next, Fits, fits, Going, going-none, going-next}
+use Rattle.butterflies.proofs.Going.{Going, going-none}
+use Rattle.runs.proofs.Stages.{Sized, sized-none, sized-next, Fits, fits, butterfly-next}
 use borrow.Author.Needs.{needs}
 use Rattle.runs.proofs.columns.by_columns.Statement.{statement}
 use Rattle.runs.proofs.columns.by_columns.Tie as tie
@@ -49,7 +50,7 @@ loop-again c =
     let i = c .before .before .before .before in
     let l = i .before .loop in
     let next = sized-next (l .inv .0) (i .loop-test .taken) in
-    (next, going-next (l .inv .1) (stage-fits i) (rw (l .inv .0 .doubled, next .halved, add-one)) (c .before .before .stage .ensures))
+    (next, butterfly-next (l .inv .1) (stage-fits i) (rw (l .inv .0 .doubled, next .halved, add-one)) (c .before .before .stage .ensures))
 
 same-length : tie.Need-same-length Inv-loop μ-loop
 same-length c = search needs

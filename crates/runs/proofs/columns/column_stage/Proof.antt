@@ -1,10 +1,9 @@
-use Prim.Native.Nat.{_+_, _≤_, _<_, _-_, _/_, _^_}
+use Prim.Native.Nat.{_+_, _≤_, _<_, _-_, _/_}
 use lib.ListN.{length}
-use mathlib.Core.Path.{_≡_, refl}
-use native.Mathlib.Nat.{sub-zero}
+use mathlib.Core.Path.{_≡_}
 use native.Mathlib.Numerals.{add-one}
 use native.Mathlib.Omega.{arith}
-use Rattle.runs.proofs.Stages.{half-rows, twice-columns, Fits, fits}
+use Rattle.runs.proofs.Stages.{Sized, sized-none, sized-next, Fits, fits}
 use borrow.Author.Needs.{needs}
 use Rattle.runs.proofs.columns.column_stage.Statement.{statement}
 use Rattle.runs.proofs.columns.column_stage.Tie as tie
@@ -13,7 +12,7 @@ use Rattle.runs.proofs.columns.column_stage.Lts as lts
 use Rattle.butterflies.proofs.stage.Reads as stage-reads
 
 abbrev Inv-loop : tie.InvT-loop
-Inv-loop buf table m n s columns₀ rows₀ i₀ columns rows i = (i ≤ s) × (columns ≡ 2 ^ i) × (rows ≡ 2 ^ (n - i))
+Inv-loop buf table m n s columns₀ rows₀ i₀ columns rows i = (i ≤ s) × Sized n i columns rows
 
 abbrev μ-loop : tie.MeasureT-loop
 μ-loop buf table m n s columns₀ rows₀ i₀ columns rows i = s - i
@@ -23,11 +22,11 @@ sized : (c : tie.At-loop Inv-loop μ-loop) → (let s = c .before .before .befor
 sized c k =
     let s = c .before .before .before in
     let l = c .loop in
-    fits (l .i) (s .args .n - (l .i + 1)) (omega arith) (l .inv .1) (half-rows (s .args .n) (l .i) k (l .inv .2)) (s .pre .1 .1) (s .pre .1 .2)
+    fits (l .i) (s .args .n - (l .i + 1)) (omega arith) (l .inv .1 .doubled) (sized-next (l .inv .1) k .halved) (s .pre .1 .1) (s .pre .1 .2)
 
 -- src/columns.rt:40:5
 loop-holds : tie.Need-loop-holds Inv-loop μ-loop
-loop-holds c = (omega arith, refl, rw sub-zero (c .before .before .pre .1 .1))
+loop-holds c = let s = c .before .before in (omega arith, sized-none (s .args .n) (s .pre .1 .1))
 
 -- src/columns.rt:41:9
 add-columns : tie.Need-add-columns Inv-loop μ-loop
@@ -43,17 +42,14 @@ loop-less c = search needs
 
 -- src/columns.rt:40:5
 loop-again : tie.Need-loop-again Inv-loop μ-loop
-loop-again c =
-    let s = c .before .before .before .before in
-    let l = c .before .loop in
-    (omega arith, twice-columns (l .i) (l .inv .1), half-rows (s .args .n) (l .i) (omega arith) (l .inv .2))
+loop-again c = let l = c .before .loop in (omega arith, sized-next (l .inv .1) (omega arith))
 
 -- src/columns.rt:45:5
 stage-requires : tie.Need-stage-requires Inv-loop μ-loop
 stage-requires c κs =
     let s = c .before .before .before .before .before in
     let k = sized (c .before .before) (omega arith) in
-    (s .pre .0, (k .buffer, (k .some, k .table)))
+    (s .pre .0, (k .buffer, (k .some .0, k .table)))
 
 -- src/columns.rt:31:1
 same-length : tie.Need-same-length Inv-loop μ-loop
@@ -65,7 +61,7 @@ returns c =
     let a = c .before .before .before .before .before in
     let s = a .before .before .before in
     let e : a .loop .i ≡ s .args .s = omega arith in
-    rw (a .loop .inv .1, half-rows (s .args .n) (a .loop .i) (omega arith) (a .loop .inv .2), add-one, e) at (c .before .before .stage .ensures)
+    rw (a .loop .inv .1 .doubled, sized-next (a .loop .inv .1) (omega arith) .halved, add-one, e) at (c .before .before .stage .ensures)
 
 pub column-stage-spec : {M : Type 1} → statement M
 column-stage-spec =
