@@ -9,7 +9,7 @@ ghost use Rattle.fourier.specs.Schedules.{schedule4};
 ghost use Rattle.residues.specs.Judgement.{Judged};
 ghost use Rattle.butterflies.specs.Ways.{wing};
 
-// All n stages. Stage t, counted from 0, "pairs l and l + 2^t", in 2^(n-t-1) blocks, at the exponents 2^(n-t-1) (l mod 2^t).
+// "Stage t from 1 to n pairs l and l + 2^(t-1)", in N/2^t blocks, at the exponents (N/2^t)(l mod 2^(t-1)); here t counts from 0.
 // The way is Time for schedule 4 itself, and Back for the inverse.
 pub fn by_thong(buf: &mut [u32], table: &[u32], m: Modulus, way: Way, n: usize)
     requires { ⌜ Judged (m .value) (now table) (now buf) ⌝ }
