@@ -11,6 +11,11 @@ unfoldable pub total : ℕ → (ℕ → ℕ) → ℕ
 total zero f = 0
 total (suc n) f = total n f + f n
 
+pub total-cong : (n : ℕ) {f g : ℕ → ℕ} → ((i : ℕ) → i < n → f i ≡ g i) → total n f ≡ total n g
+unfolding total
+total-cong zero h = refl
+total-cong (suc n) h = ap₂ _+_ (total-cong n (λ i l. h i (N.le-step l))) (h n (N.le-refl (suc n)))
+
 module _ {K : Type 0} (R : Ring K) where
   infixl 65 _⊕_
   infixl 70 _⊗_

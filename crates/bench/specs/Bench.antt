@@ -12,8 +12,8 @@ use Rattle.fourier.specs.Schedules.{Wing, Buffer, butterfly, shuffled, columns,
 use Rattle.fourier.specs.Table.{root, wanted, rule, lookup, back}
 use Rattle.residues.specs.Moduli.{permits}
 use Rattle.residues.specs.Judgement.{below}
-use Rattle.modular.specs.Verdicts.{scratch-fits, lent-verdict, rest-verdict, accept-verdict, stage-verdict}
-use Rattle.modular.specs.Outcomes.{staged}
+use Rattle.modular.specs.Verdicts.{offers-stage, scratch-fits, lent-verdict, rest-verdict, accept-verdict, stage-verdict}
+use Rattle.modular.specs.Outcomes.{stage-of, staged}
 use Rattle.fourier.specs.Numbers.{fourier-mod, frequency-mod, time-mod, inverse-mod}
 
 -- m = 5, table 1 2, samples 1 2 3 4.
@@ -65,7 +65,9 @@ bench :
     -- the single stage as a call: its answer, and what it leaves
     × (stage-verdict 1 0 (1 ∷ 2 ∷ 3 ∷ 4 ∷ []) 5 (1 ∷ 2 ∷ []) 0 ≡ done)
     × (staged 1 0 (1 ∷ 2 ∷ 3 ∷ 4 ∷ []) 5 (1 ∷ 2 ∷ []) ≡ 4 ∷ 1 ∷ 3 ∷ 1 ∷ [])
+    × (stage-verdict 2 0 (1 ∷ 2 ∷ 3 ∷ 4 ∷ []) 5 (1 ∷ 2 ∷ []) 4 ≡ done)
+    × (staged 2 0 (1 ∷ 2 ∷ 3 ∷ 4 ∷ []) 5 (1 ∷ 2 ∷ []) ≡ 4 ∷ 3 ∷ 1 ∷ 1 ∷ [])
     -- reversal for N = 8
     × (tabulate 8 (rev 3) ≡ 0 ∷ 4 ∷ 2 ∷ 6 ∷ 1 ∷ 5 ∷ 3 ∷ 7 ∷ [])
-unfolding tabulate total rev butterfly shuffled run halves fourier-mod root wanted rule lookup back inverse-mod first log-up-to log-of permits below scratch-fits lent-verdict rest-verdict accept-verdict stage-verdict staged
-bench = (refl, refl, refl, refl, refl, refl, refl, refl, refl, refl, refl, refl, refl, refl, refl, refl, refl, refl, refl, refl, refl, refl)
+unfolding tabulate total rev butterfly shuffled run halves fourier-mod root wanted rule lookup back inverse-mod first log-up-to log-of permits below offers-stage scratch-fits lent-verdict rest-verdict accept-verdict stage-verdict stage-of
+bench = (refl, refl, refl, refl, refl, refl, refl, refl, refl, refl, refl, refl, refl, refl, refl, refl, refl, refl, refl, refl, refl, refl, refl, refl)

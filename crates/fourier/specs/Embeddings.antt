@@ -33,6 +33,11 @@ column-room n s i j l hi hj =
     let whole : 2 ^ s * 2 ^ (n - s) ≡ 2 ^ n = (let e : n ≡ s + (n - s) = omega arith in sym (ap (λ (z : ℕ). 2 ^ z) e ∙ pow-add 2 s (n - s))) in
     rw (← whole, mul-comm (2 ^ (n - s)) j) (digits-lt hj hi)
 
+pub row-room : (n s i j : ℕ) → s ≤ n → i < 2 ^ (n - s) → j < 2 ^ s → row-wise s i j < 2 ^ n
+row-room n s i j l hi hj =
+    let whole : 2 ^ (n - s) * 2 ^ s ≡ 2 ^ n = (let e : n ≡ n - s + s = omega arith in sym (ap (λ (z : ℕ). 2 ^ z) e ∙ pow-add 2 (n - s) s)) in
+    rw (← whole, mul-comm (2 ^ s) i) (digits-lt hi hj)
+
 -- ---- embeddings
 
 pub columns-embeds : (n : ℕ) → Embeds frequency n straight (column-wise n) (columns n)

@@ -6,7 +6,7 @@ use native.Mathlib.Nat.{le-of-lt, mod-lt, sub-add-cancel}
 use native.Mathlib.Omega.{arith}
 use Rattle.algebra.specs.Ring.{Ring}
 use Rattle.algebra.specs.Solver.{:1, _:*_, :neg, ring}
-use Rattle.algebra.specs.Sum.{pow, total, pow-plus, pow-mod, of-pow, of-total, sum-cong}
+use Rattle.algebra.specs.Sum.{pow, total, total-cong, pow-plus, pow-mod, of-pow, of-total, sum-cong}
 use Rattle.algebra.specs.Modulo.{Mod, modulo, of-mod, of-minus, of-modulus, of-injective}
 use Rattle.fourier.specs.Reverse.{rev}
 use Rattle.fourier.specs.Schedules.{Wing, Buffer, Schedule, schedule1, schedule2, schedule3, schedule4, schedule5, Arithmetic, in-frequency, in-time}
@@ -21,6 +21,11 @@ use Rattle.fourier.specs.Table.{root, Accepted, lookup, back, lookup-bel
 -- f(j) = the sum over k of A(k) x^(jk) modulo m, "as a number from 0 to m - 1".
 unfoldable pub fourier-mod : ℕ → ℕ → ℕ → (ℕ → ℕ) → ℕ → ℕ
 fourier-mod m x N A j = total N (λ k. A k * x ^ (j * k)) % m
+
+-- It is made of the first N samples.
+pub fourier-cong : (m x N : ℕ) {A B : ℕ → ℕ} (j : ℕ) → ((k : ℕ) → k < N → A k ≡ B k) → fourier-mod m x N A j ≡ fourier-mod m x N B j
+unfolding fourier-mod
+fourier-cong m x N j h = ap (λ z. z % m) (total-cong N (λ k l. ap (λ z. z * x ^ (j * k)) (h k l)))
 
 -- Sum, difference and product modulo m.
 abbrev pub plus-mod : ℕ → ℕ → ℕ → ℕ

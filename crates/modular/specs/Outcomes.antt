@@ -4,14 +4,17 @@ use Prim.Native.Nat.{ℕ}
 use mathlib.Core.Path.{_≡_, sym, _∙_}
 use mathlib.Core.Bool.{cond}
 use mathlib.Core.List.{List}
-use lib.ListN.{length, replicate}
+use lib.ListN.{length}
+use lib.Dec.{eqb}
 use Rattle.answer.specs.declared.Answer.{Answer}
 use Rattle.answer.specs.Choice.{if-done}
 use Rattle.answer.specs.Lengths.{log-of}
 use Rattle.answer.specs.Lists.{at, tabulate}
-use Rattle.fourier.specs.Schedules.{columns, step, schedule1}
-use Rattle.fourier.specs.Numbers.{frequency-mod}
-use Rattle.modular.specs.Verdicts.{accept-verdict, through-scratch, transform-verdict, stage-verdict}
+use Rattle.fourier.specs.Reverse.{rev}
+use Rattle.fourier.specs.Schedules.{Buffer, Stage, columns, shuffle, step, schedule1, schedule2, schedule3, schedule4, schedule5}
+use Rattle.fourier.specs.Numbers.{frequency-mod, time-mod, inverse-mod}
+use Rattle.shuffles.specs.Stages.{zeros}
+use Rattle.modular.specs.Verdicts.{accept-verdict, through-scratch, transform-verdict, stage-verdict, inverse-verdict, reverse-verdict}
 
 -- ---- accept
 
@@ -20,13 +23,21 @@ pub record AcceptOutcome (m : ℕ) (table : List ℕ) (answer : Answer) : Type 0
 
 -- ---- transform
 
--- What the schedule leaves of the data, where everything is as document 01 asks.
-unfoldable pub transformed : ℕ → List ℕ → ℕ → List ℕ → List ℕ
-transformed schedule buf m table = tabulate (length buf) (schedule1 (log-of (length buf)) ℕ (frequency-mod m (length table) (at table)) (at buf))
+-- What the schedule leaves of N = 2^n data, with a table of h = N/2 entries.
+unfoldable pub by-schedule : ℕ → ℕ → ℕ → ℕ → (ℕ → ℕ) → Buffer ℕ → Buffer ℕ
+by-schedule schedule n m h t d =
+    cond (eqb schedule 1) (schedule1 n ℕ (frequency-mod m h t) d)
+    (cond (eqb schedule 2) (schedule2 n ℕ (frequency-mod m h t) d)
+    (cond (eqb schedule 3) (schedule3 n ℕ (frequency-mod m h t) d)
+    (cond (eqb schedule 4) (schedule4 n ℕ (time-mod m h t) d)
+    (schedule5 n ℕ (time-mod m h t) d))))
+
+abbrev pub transformed : ℕ → List ℕ → ℕ → List ℕ → List ℕ
+transformed schedule buf m table = tabulate (length buf) (by-schedule schedule (log-of (length buf)) m (length table) (at table) (at buf))
 
 -- Scratch "is all zeros after success. Elsewhere it is neither tested nor touched".
 unfoldable pub cleared : ℕ → List ℕ → List ℕ
-cleared schedule scratch = cond (through-scratch schedule) (replicate (length scratch) 0) scratch
+cleared schedule scratch = cond (through-scratch schedule) (zeros (length scratch)) scratch
 
 pub record TransformOutcome (schedule : ℕ) (buf : List ℕ) (m : ℕ) (table scratch : List ℕ) (answer : Answer) (buf′ scratch′ : List ℕ) : Type 0 where
   pub answers : answer ≡ transform-verdict schedule buf m table (length scratch)
@@ -35,14 +46,30 @@ pub record TransformOutcome (schedule : ℕ) (buf : List ℕ) (m : ℕ) (table s
 
 -- ---- stage
 
--- What stage s of the schedule makes of the data.
-unfoldable pub staged : ℕ → ℕ → List ℕ → ℕ → List ℕ → List ℕ
-staged schedule s buf m table = tabulate (length buf) (step (frequency-mod m (length table) (at table)) (columns (log-of (length buf)) s) (at buf))
+-- Stage s of schedule 1 or 2.
+unfoldable pub stage-of : ℕ → ℕ → ℕ → Stage
+stage-of schedule n s = cond (eqb schedule 1) (columns n s) (shuffle n s)
+
+-- What it makes of the data.
+abbrev pub staged : ℕ → ℕ → List ℕ → ℕ → List ℕ → List ℕ
+staged schedule s buf m table = tabulate (length buf) (step (frequency-mod m (length table) (at table)) (stage-of schedule (log-of (length buf)) s) (at buf))
 
 pub record StageOutcome (schedule s : ℕ) (buf : List ℕ) (m : ℕ) (table scratch : List ℕ) (answer : Answer) (buf′ scratch′ : List ℕ) : Type 0 where
   pub answers : answer ≡ stage-verdict schedule s buf m table (length scratch)
   pub leaves : buf′ ≡ if-done (stage-verdict schedule s buf m table (length scratch)) (staged schedule s buf m table) buf
   pub clears : scratch′ ≡ if-done (stage-verdict schedule s buf m table (length scratch)) (cleared schedule scratch) scratch
+
+-- ---- inverse
+
+pub record InverseOutcome (buf : List ℕ) (m : ℕ) (table : List ℕ) (answer : Answer) (buf′ : List ℕ) : Type 0 where
+  pub answers : answer ≡ inverse-verdict buf m table
+  pub leaves : buf′ ≡ if-done (inverse-verdict buf m table) (tabulate (length buf) (inverse-mod m (log-of (length buf)) (at table) (at buf))) buf
+
+-- ---- reverse
+
+pub record ReverseOutcome (buf : List ℕ) (answer : Answer) (buf′ : List ℕ) : Type 0 where
+  pub answers : answer ≡ reverse-verdict buf
+  pub leaves : buf′ ≡ if-done (reverse-verdict buf) (tabulate (length buf) (λ p. at buf (rev (log-of (length buf)) p))) buf
 
 -- ---- each outcome is the only one
 
@@ -56,3 +83,9 @@ transform-functional h l = (h .answers ∙ sym (l .answers), h .leaves ∙ sym (
 pub stage-functional : {schedule s m : ℕ} {buf table scratch : List ℕ} {a b : Answer} {x y x′ y′ : List ℕ} →
     StageOutcome schedule s buf m table scratch a x y → StageOutcome schedule s buf m table scratch b x′ y′ → (a ≡ b) × (x ≡ x′) × (y ≡ y′)
 stage-functional h l = (h .answers ∙ sym (l .answers), h .leaves ∙ sym (l .leaves), h .clears ∙ sym (l .clears))
+
+pub inverse-functional : {m : ℕ} {buf table : List ℕ} {a b : Answer} {x x′ : List ℕ} → InverseOutcome buf m table a x → InverseOutcome buf m table b x′ → (a ≡ b) × (x ≡ x′)
+inverse-functional h l = (h .answers ∙ sym (l .answers), h .leaves ∙ sym (l .leaves))
+
+pub reverse-functional : {buf : List ℕ} {a b : Answer} {x x′ : List ℕ} → ReverseOutcome buf a x → ReverseOutcome buf b x′ → (a ≡ b) × (x ≡ x′)
+reverse-functional h l = (h .answers ∙ sym (l .answers), h .leaves ∙ sym (l .leaves))

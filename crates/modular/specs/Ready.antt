@@ -1,12 +1,12 @@
 -- What it means that a call over residues answers 0: everything that it was lent is as document 01 asks.
 use Prim.Native.Nat.{ℕ, suc, _-_, _/_, _^_, _≤_, _<_}
 use mathlib.Core.Path.{_≡_}
-use mathlib.Core.Bool.{true}
+use mathlib.Core.Bool.{true, and-eq-true-iff}
 use mathlib.Core.List.{List}
 use native.Mathlib.Omega.{arith}
 use lib.ListN.{length}
-use lib.Dec.{ltb, eqb}
-use borrow.Author.Tests.{ltb-true, eqb-true}
+use lib.Dec.{ltb, leb, eqb}
+use borrow.Author.Tests.{ltb-true, leb-true, eqb-true}
 use Rattle.answer.specs.Choice.{refuse, done, unless-done, judged-done}
 use Rattle.answer.specs.Search.{nowhere-passed}
 use Rattle.answer.specs.Lengths.{log-of, permitted-log, permitted-range}
@@ -15,7 +15,7 @@ use Rattle.fourier.specs.Sizes.{two-halves}
 use Rattle.fourier.specs.Table.{rule, Accepted}
 use Rattle.residues.specs.Moduli.{permits, permits-permitted}
 use Rattle.residues.specs.Judgement.{Judged, bad-entry, bad-sample, accepted-below, nowhere-below}
-use Rattle.modular.specs.Verdicts.{permitted-length, scratch-fits, lent-verdict, rest-verdict, offers, transform-verdict, offers-stage, stage-verdict}
+use Rattle.modular.specs.Verdicts.{permitted-length, scratch-fits, lent-verdict, rest-verdict, offers, transform-verdict, offers-stage, stage-verdict, inverse-verdict}
 
 -- N = 2^n data below m, and an accepted table of N/2 entries.
 pub record Ready (buf : List ℕ) (m : ℕ) (table : List ℕ) : Type 0 where
@@ -70,3 +70,18 @@ stage-ready schedule s buf m table scratch zero =
     let below = unless-done (ltb s (log-of (length buf))) (refuse 8) _ (omega arith) (long .1) in
     let rest = rest-ready schedule buf m table scratch (long .0) (below .1) in
     (offer .0, ltb-true s (log-of (length buf)) (below .0), rest .0, rest .1)
+
+pub inverse-ready : (buf : List ℕ) (m : ℕ) (table : List ℕ) → inverse-verdict buf m table .number ≡ 0 → Ready buf m table
+unfolding inverse-verdict rest-verdict scratch-fits
+inverse-ready buf m table zero =
+    let long = unless-done (permitted-length (length buf)) (refuse 1) _ (omega arith) zero in
+    rest-ready 1 buf m table 0 (long .0) (long .1) .0
+
+-- A schedule that is offered.
+pub offers-range : (schedule : ℕ) → offers schedule ≡ true → (1 ≤ schedule) × (schedule ≤ 5)
+unfolding offers
+offers-range schedule e = let both = and-eq-true-iff (leb 1 schedule) (leb schedule 5) .0 e in (leb-true 1 schedule (both .0), leb-true schedule 5 (both .1))
+
+pub offers-stage-range : (schedule : ℕ) → offers-stage schedule ≡ true → (1 ≤ schedule) × (schedule ≤ 2)
+unfolding offers-stage
+offers-stage-range schedule e = let both = and-eq-true-iff (leb 1 schedule) (leb schedule 2) .0 e in (leb-true 1 schedule (both .0), leb-true schedule 2 (both .1))

@@ -1,9 +1,9 @@
 -- What the calls over residues answer: the first of document 01's conditions that holds, in its order.
 use Prim.Native.Nat.{ℕ, _+_, _/_}
-use mathlib.Core.Bool.{Bool, true, cond}
+use mathlib.Core.Bool.{Bool, true, cond, _&&_}
 use mathlib.Core.List.{List}
 use lib.ListN.{length}
-use lib.Dec.{ltb, eqb}
+use lib.Dec.{ltb, leb, eqb}
 use Rattle.answer.specs.declared.Answer.{Answer}
 use Rattle.answer.specs.Choice.{refuse, done, unless, judged-at}
 use Rattle.answer.specs.Lengths.{log-of}
@@ -43,9 +43,9 @@ rest-verdict schedule buf m table scratch =
     (unless (scratch-fits schedule scratch (length buf)) (refuse 6)
     (lent-verdict m table buf))
 
--- The transform: 7, 1, 2, 6, 3, 4, 5.
-abbrev pub offers : ℕ → Bool
-offers schedule = eqb schedule 1
+-- The transform: 7, 1, 2, 6, 3, 4, 5. All five schedules are offered.
+unfoldable pub offers : ℕ → Bool
+offers schedule = leb 1 schedule && leb schedule 5
 
 unfoldable pub transform-verdict : ℕ → List ℕ → ℕ → List ℕ → ℕ → Answer
 transform-verdict schedule buf m table scratch =
@@ -53,9 +53,9 @@ transform-verdict schedule buf m table scratch =
     (unless (permitted-length (length buf)) (refuse 1)
     (rest-verdict schedule buf m table scratch))
 
--- A single stage s: 7, 1, 8, 2, 6, 3, 4, 5.
-abbrev pub offers-stage : ℕ → Bool
-offers-stage schedule = eqb schedule 1
+-- A single stage s: 7, 1, 8, 2, 6, 3, 4, 5. "Of schedules 1 and 2."
+unfoldable pub offers-stage : ℕ → Bool
+offers-stage schedule = leb 1 schedule && leb schedule 2
 
 unfoldable pub stage-verdict : ℕ → ℕ → List ℕ → ℕ → List ℕ → ℕ → Answer
 stage-verdict schedule s buf m table scratch =
@@ -63,3 +63,14 @@ stage-verdict schedule s buf m table scratch =
     (unless (permitted-length (length buf)) (refuse 1)
     (unless (ltb s (log-of (length buf))) (refuse 8)
     (rest-verdict schedule buf m table scratch)))
+
+-- The inverse: 1, 2, 3, 4, 5.
+unfoldable pub inverse-verdict : List ℕ → ℕ → List ℕ → Answer
+inverse-verdict buf m table =
+    unless (permitted-length (length buf)) (refuse 1)
+    (unless (permits m) (refuse 2)
+    (lent-verdict m table buf))
+
+-- Bit reversal: 1.
+unfoldable pub reverse-verdict : List ℕ → Answer
+reverse-verdict buf = unless (permitted-length (length buf)) (refuse 1) done

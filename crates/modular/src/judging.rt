@@ -6,7 +6,7 @@ ghost use mathlib.Core.Path.{_≡_};
 ghost use Prim.Native.Nat.{_/_, _≤_};
 ghost use lib.ListN.{length};
 ghost use Rattle.residues.specs.Moduli.{Permitted};
-ghost use Rattle.modular.specs.Verdicts.{offers, offers-stage, scratch-fits, lent-verdict, rest-verdict, transform-verdict, stage-verdict};
+ghost use Rattle.modular.specs.Verdicts.{offers, offers-stage, scratch-fits, lent-verdict, rest-verdict, transform-verdict, stage-verdict, inverse-verdict};
 
 // The table by 3 and 4, and the samples by 5.
 pub fn judge_lent(buf: &[u32], m: u32, table: &[u32]) -> Answer
@@ -60,14 +60,20 @@ fn judge_rest(schedule: u32, buf: &[u32], m: u32, table: &[u32], scratch: usize)
 fn offered(schedule: u32) -> bool
     ensures { λ r. ⌜ r ≡ offers schedule ⌝ }
 {
-    schedule == 1
+    if schedule < 1 {
+        return false;
+    }
+    schedule <= 5
 }
 
 // The schedules of a single stage.
 fn offered_stage(schedule: u32) -> bool
     ensures { λ r. ⌜ r ≡ offers-stage schedule ⌝ }
 {
-    schedule == 1
+    if schedule < 1 {
+        return false;
+    }
+    schedule <= 2
 }
 
 // The whole transform: 7, 1, and the rest.
@@ -105,4 +111,17 @@ pub fn judge_stage(
         return answer::STAGE;
     }
     judge_rest(schedule, buf, m, table, scratch)
+}
+
+// The inverse: 1, 2, and what is lent.
+pub fn judge_inverse(buf: &[u32], m: u32, table: &[u32]) -> Answer
+    ensures { λ r. ⌜ r ≡ inverse-verdict (now (buf .entry)) m (now (table .entry)) ⌝ }
+{
+    if answer::log_of(buf.len()) == 0 {
+        return answer::LENGTH;
+    }
+    if !residues::permitted(m) {
+        return answer::MODULUS;
+    }
+    judge_lent(buf, m, table)
 }

@@ -1,5 +1,6 @@
 // Single stages.
 use crate::judging::judge_stage;
+use crate::working;
 use answer::Answer;
 use residues::Modulus;
 ghost use Rattle.modular.specs.Outcomes.{StageOutcome};
@@ -21,6 +22,14 @@ pub fn stage(
         return verdict;
     }
     let n = answer::log_of(buf.len());
-    runs::column_stage(buf, table, Modulus { value: m }, n, s as usize);
+    working::do_stage(
+        schedule,
+        s as usize,
+        buf,
+        table,
+        Modulus { value: m },
+        n,
+        scratch,
+    );
     verdict
 }

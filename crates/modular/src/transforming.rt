@@ -1,6 +1,6 @@
-// The whole transform, and its single stages.
-use crate::judging::judge_stage;
+// The whole transform.
 use crate::judging::judge_transform;
+use crate::working;
 use answer::Answer;
 use residues::Modulus;
 ghost use Rattle.modular.specs.Outcomes.{TransformOutcome};
@@ -21,6 +21,6 @@ pub fn transform(
         return verdict;
     }
     let n = answer::log_of(buf.len());
-    runs::by_columns(buf, table, Modulus { value: m }, n);
+    working::do_schedule(schedule, buf, table, Modulus { value: m }, n, scratch);
     verdict
 }

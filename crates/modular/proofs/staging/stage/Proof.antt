@@ -1,11 +1,11 @@
-use Prim.Native.Nat.{_<_}
-use borrow.Author.Tests.{eqb-true}
-use lib.ListN.{length}
 use mathlib.Core.Path.{_≡_}
 use Rattle.answer.specs.Lengths.{log-of}
-use Rattle.modular.specs.Outcomes.{staged, cleared}
-use Rattle.modular.specs.Ready.{Ready, stage-ready}
-use Rattle.modular.proofs.Leaving.{refused, worked, untouched}
+use Rattle.modular.specs.Ready.{Ready, stage-ready, offers-stage-range}
+use Rattle.modular.proofs.Leaving.{refused, worked}
+use Prim.Native.Nat.{_<_}
+use lib.ListN.{length}
+use mathlib.Core.Bool.{true}
+use Rattle.modular.specs.Verdicts.{offers-stage, scratch-fits}
 use borrow.Author.Needs.{needs}
 use Rattle.modular.proofs.staging.stage.Statement.{statement}
 use Rattle.modular.proofs.staging.stage.Tie as tie
@@ -13,55 +13,54 @@ use Rattle.modular.proofs.staging.stage.Reads as reads
 use Rattle.modular.proofs.staging.stage.Lts as lts
 use Rattle.answer.proofs.log_of.Reads as log-of-reads
 use Rattle.modular.proofs.judging.judge_stage.Reads as judge-stage-reads
-use Rattle.runs.proofs.column_stage.Reads as column-stage-reads
+use Rattle.modular.proofs.working.do_stage.Reads as do-stage-reads
 
 -- The judgement was passed.
-ready : (c : tie.Else1) → (let s = c .before .before .before .before .before .before .before .args in (s .s < log-of (length (s .buf .now))) × Ready (s .buf .now) (s .m) (s .table .now))
-ready c = let r = stage-ready _ _ _ _ _ _ (rw (c .before .before .judge-stage .ensures) at (c .if1 .left)) in (r .1, r .2)
+ready : (c : tie.Else1) → (let s = c .before .before .before .before .before .before .before .args in (offers-stage (s .schedule) ≡ true) × (s .s < log-of (length (s .buf .now))) × (Ready (s .buf .now) (s .m) (s .table .now)) × (scratch-fits (s .schedule) (length (s .scratch .now)) (length (s .buf .now)) ≡ true))
+ready c = stage-ready _ _ _ _ _ _ (rw (c .before .before .judge-stage .ensures) at (c .if1 .left))
 
--- src/staging.rt:26:9
+-- src/staging.rt:20:9
 judge-stage-requires : tie.Need-judge-stage-requires
 judge-stage-requires c κs = search needs
 
--- src/staging.rt:28:9
+-- src/staging.rt:22:9
 same-length : tie.Need-same-length
 same-length c = search needs
 
--- src/staging.rt:28:9
+-- src/staging.rt:22:9
 returns : tie.Need-returns
 returns c =
     let e = c .before .before .judge-stage .ensures in
     record { answers = e; leaves = refused e (c .if1 .taken) _ _; clears = refused e (c .if1 .taken) _ _ }
 
--- src/staging.rt:30:9
+-- src/staging.rt:24:9
 log-of-requires : tie.Need-log-of-requires
 log-of-requires c κs = search needs
 
--- src/staging.rt:31:5
-column-stage-requires : tie.Need-column-stage-requires
-column-stage-requires c κs =
-    let r = ready (c .before .before) in
-    let n = c .before .log-of .ensures in
-    (r .1 .judged, (rw n (r .0), rw n (r .1 .whole), rw n (r .1 .half)))
+-- src/staging.rt:25:5
+do-stage-requires : tie.Need-do-stage-requires
+do-stage-requires c κs =
+    let r = ready (c .before .before .before) in
+    let n = c .before .before .log-of .ensures in
+    let range = offers-stage-range _ (r .0) in
+    (r .2 .judged, ((rw n (r .1), rw n (r .2 .whole), rw n (r .2 .half)), (range .0, range .1, r .3)))
 
--- src/staging.rt:22:1
+-- src/staging.rt:9:1
 same-length-2 : tie.Need-same-length-2
 same-length-2 c = search needs
 
--- src/staging.rt:22:1
+-- src/staging.rt:9:1
+same-length-3 : tie.Need-same-length-3
+same-length-3 c = search needs
+
+-- src/staging.rt:9:1
 returns-2 : tie.Need-returns-2
-unfolding staged
 returns-2 c =
-    let i = c .before .before .before .before .before in
-    let s = i .before .before .before .before .before .before .before .args in
+    let w = c .before .before .before .before in
+    let n = w .before .before .before .log-of .ensures in
+    let i = w .before .before .before .before in
     let e = i .before .before .judge-stage .ensures in
-    let n = c .before .before .before .before .log-of .ensures in
-    let one : s .schedule ≡ 1 = eqb-true (s .schedule) 1 (stage-ready _ _ _ _ _ _ (rw e at (i .if1 .left)) .0) in
-    record {
-      answers = e;
-      leaves = worked e (i .if1 .left) _ _ (rw n at (c .before .before .column-stage .ensures));
-      clears = worked e (i .if1 .left) (cleared (s .schedule) (s .scratch .now)) (s .scratch .now) (untouched (s .schedule) (s .scratch .now) (rw one));
-    }
+    record { answers = e; leaves = worked e (i .if1 .left) _ _ (rw n at (w .do-stage .ensures .0)); clears = worked e (i .if1 .left) _ _ (w .do-stage .ensures .1) }
 
 pub stage-spec : {M : Type 1} → statement M
 stage-spec =
@@ -71,6 +70,7 @@ stage-spec =
     same-length
     returns
     log-of-requires
-    column-stage-requires
+    do-stage-requires
     same-length-2
+    same-length-3
     returns-2)

@@ -1,9 +1,10 @@
-use borrow.Author.Tests.{eqb-true}
 use mathlib.Core.Path.{_≡_}
 use Rattle.answer.specs.Lengths.{log-of}
-use Rattle.modular.specs.Outcomes.{transformed, cleared}
-use Rattle.modular.specs.Ready.{Ready, transform-ready}
-use Rattle.modular.proofs.Leaving.{refused, worked, untouched}
+use Rattle.modular.specs.Ready.{Ready, transform-ready, offers-range}
+use Rattle.modular.proofs.Leaving.{refused, worked}
+use lib.ListN.{length}
+use mathlib.Core.Bool.{true}
+use Rattle.modular.specs.Verdicts.{offers, scratch-fits}
 use borrow.Author.Needs.{needs}
 use Rattle.modular.proofs.transforming.transform.Statement.{statement}
 use Rattle.modular.proofs.transforming.transform.Tie as tie
@@ -11,55 +12,54 @@ use Rattle.modular.proofs.transforming.transform.Reads as reads
 use Rattle.modular.proofs.transforming.transform.Lts as lts
 use Rattle.answer.proofs.log_of.Reads as log-of-reads
 use Rattle.modular.proofs.judging.judge_transform.Reads as judge-transform-reads
-use Rattle.runs.proofs.by_columns.Reads as by-columns-reads
+use Rattle.modular.proofs.working.do_schedule.Reads as do-schedule-reads
 
 -- The judgement was passed.
-ready : (c : tie.Else1) → (let s = c .before .before .before .before .before .before .before .args in Ready (s .buf .now) (s .m) (s .table .now))
-ready c = transform-ready _ _ _ _ _ (rw (c .before .before .judge-transform .ensures) at (c .if1 .left)) .1
+ready : (c : tie.Else1) → (let s = c .before .before .before .before .before .before .before .args in (offers (s .schedule) ≡ true) × (Ready (s .buf .now) (s .m) (s .table .now)) × (scratch-fits (s .schedule) (length (s .scratch .now)) (length (s .buf .now)) ≡ true))
+ready c = transform-ready _ _ _ _ _ (rw (c .before .before .judge-transform .ensures) at (c .if1 .left))
 
--- src/transforming.rt:12:9
+-- src/transforming.rt:20:9
 judge-transform-requires : tie.Need-judge-transform-requires
 judge-transform-requires c κs = search needs
 
--- src/transforming.rt:14:9
+-- src/transforming.rt:22:9
 same-length : tie.Need-same-length
 same-length c = search needs
 
--- src/transforming.rt:14:9
+-- src/transforming.rt:22:9
 returns : tie.Need-returns
 returns c =
     let e = c .before .before .judge-transform .ensures in
     record { answers = e; leaves = refused e (c .if1 .taken) _ _; clears = refused e (c .if1 .taken) _ _ }
 
--- src/transforming.rt:16:9
+-- src/transforming.rt:24:9
 log-of-requires : tie.Need-log-of-requires
 log-of-requires c κs = search needs
 
--- src/transforming.rt:17:5
-by-columns-requires : tie.Need-by-columns-requires
-by-columns-requires c κs =
-    let r = ready (c .before .before) in
-    let n = c .before .log-of .ensures in
-    (r .judged, (rw n (r .some), rw n (r .whole), rw n (r .half)))
+-- src/transforming.rt:25:5
+do-schedule-requires : tie.Need-do-schedule-requires
+do-schedule-requires c κs =
+    let r = ready (c .before .before .before) in
+    let n = c .before .before .log-of .ensures in
+    let range = offers-range _ (r .0) in
+    (r .1 .judged, ((rw n (r .1 .some), rw n (r .1 .whole), rw n (r .1 .half)), (range .0, range .1, r .2)))
 
--- src/transforming.rt:8:1
+-- src/transforming.rt:10:1
 same-length-2 : tie.Need-same-length-2
 same-length-2 c = search needs
 
--- src/transforming.rt:8:1
+-- src/transforming.rt:10:1
+same-length-3 : tie.Need-same-length-3
+same-length-3 c = search needs
+
+-- src/transforming.rt:10:1
 returns-2 : tie.Need-returns-2
-unfolding transformed
 returns-2 c =
-    let i = c .before .before .before .before .before in
-    let s = i .before .before .before .before .before .before .before .args in
+    let w = c .before .before .before .before in
+    let n = w .before .before .before .log-of .ensures in
+    let i = w .before .before .before .before in
     let e = i .before .before .judge-transform .ensures in
-    let n = c .before .before .before .before .log-of .ensures in
-    let one : s .schedule ≡ 1 = eqb-true (s .schedule) 1 (transform-ready _ _ _ _ _ (rw e at (i .if1 .left)) .0) in
-    record {
-      answers = e;
-      leaves = worked e (i .if1 .left) _ _ (rw n at (c .before .before .by-columns .ensures));
-      clears = worked e (i .if1 .left) (cleared (s .schedule) (s .scratch .now)) (s .scratch .now) (untouched (s .schedule) (s .scratch .now) (rw one));
-    }
+    record { answers = e; leaves = worked e (i .if1 .left) _ _ (rw n at (w .do-schedule .ensures .0)); clears = worked e (i .if1 .left) _ _ (w .do-schedule .ensures .1) }
 
 pub transform-spec : {M : Type 1} → statement M
 transform-spec =
@@ -69,6 +69,7 @@ transform-spec =
     same-length
     returns
     log-of-requires
-    by-columns-requires
+    do-schedule-requires
     same-length-2
+    same-length-3
     returns-2)
