@@ -28,7 +28,7 @@ pub const MODULUS: Answer = Answer {
     place: 0,
 };
 
-// 3: the table's length is not that of N.
+// 3: the table's length is not that of N; when filling or accepting alone, not that of any permitted N.
 pub const TABLE_LENGTH: Answer = Answer {
     number: 3,
     place: 0,

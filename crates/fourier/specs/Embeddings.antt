@@ -23,7 +23,7 @@ row-wise s i j = 2 ^ s * i + j
 abbrev pub reversed-wise : ℕ → ℕ → ℕ → ℕ → ℕ
 reversed-wise n s i j = 2 ^ s * rev (n - s) i + rev s j
 
--- Samples and sums in order, for schedules 1, 2, 3 and 5.
+-- Samples in order, for schedules 1, 2, 3 and 5.
 abbrev pub straight : ℕ → ℕ
 straight p = p
 

@@ -1,8 +1,9 @@
 -- Settings, and the setting that a house row yields.
-use Prim.Native.Nat.{ℕ, suc, _-_, _≤_}
+use Prim.Native.Nat.{ℕ, suc, _-_, _<_, _≤_}
 use mathlib.Core.Path.{_≡_, sym, ap, _∙_}
 use native.Mathlib.Omega.{arith}
 use lib.Dec.{ltb}
+use borrow.Author.Tests.{lt-ltb}
 use lib.ListN.{getD, replicate}
 use Rattle.answer.specs.Choice.{refuse, done, unless, if-done}
 use Rattle.answer.specs.Lists.{tabulate, getD-tabulate}
@@ -41,6 +42,11 @@ pub record Outcome (row : ℕ) (answer : Answer) (setting : Setting) : Type 0 wh
 
 pub outcome-unique : {row : ℕ} {a b : Answer} {s t : Setting} → Outcome row a s → Outcome row b t → (a ≡ b) × (s ≡ t)
 outcome-unique x y = (x .answers ∙ sym (y .answers), x .yields ∙ sym (y .yields))
+
+-- ---- each of the three rows yields its setting
+
+pub row-yields : {row : ℕ} {answer : Answer} {setting : Setting} → row < 3 → Outcome row answer setting → (answer ≡ done) × (setting ≡ row-setting row)
+row-yields {row} h outcome = let e = lt-ltb row 3 h in (outcome .answers ∙ rw e, outcome .yields ∙ rw e)
 
 -- ---- the roots of a row's setting
 

@@ -4,25 +4,27 @@ use mathlib.Core.Path.{_≡_, refl, sym, ap, _∙_}
 use mathlib.Core.Bool.{true, false, cond}
 use mathlib.Core.Logic.{⊎-elim}
 use mathlib.Core.List.{List}
+use native.Mathlib.Nat.{mod-lt}
 use native.Mathlib.Omega.{arith}
+use borrow.Author.Tests.{ltb-true}
 use lib.ListN.{length}
 use lib.Seq.{ext-getD}
 use lib.Dec.{ltb, eqb}
 use Rattle.answer.specs.declared.Answer.{Answer}
 use Rattle.answer.specs.Choice.{refuse, refuse-at, done, unless-done, judged-done, done-left, unless-past, judged-past, judged-here, judged-number}
-use Rattle.answer.specs.Search.{FailsFirst, at-failed, nowhere-passed}
-use Rattle.answer.specs.Lengths.{log-of}
+use Rattle.answer.specs.Search.{FailsFirst, first-passed, at-failed, nowhere-passed}
+use Rattle.answer.specs.Lengths.{log-of, permitted-log}
 use Rattle.answer.specs.Lists.{at, Holds, getD-tabulate, holds}
-use Rattle.fourier.specs.Reverse.{rev}
+use Rattle.fourier.specs.Reverse.{rev, rev-lt, rev-rev}
 use Rattle.fourier.specs.Schedules.{Buffer, Stage, columns, shuffle}
 use Rattle.fourier.specs.Array.{frequency, Embeds, Embedded, stage-array}
 use Rattle.fourier.specs.Embeddings.{straight, column-wise, row-wise, column-room, row-room, columns-embeds, shuffle-embeds}
 use Rattle.fourier.specs.Table.{root, rule, Accepted, root-power}
 use Rattle.fourier.specs.Numbers.{fourier-mod, fourier-cong, frequency-mod, schedule1-sums, schedule2-sums, schedule3-sums, schedule4-sums, schedule5-sums, inverse-mod, inverse-sums-mod, sums-inverse-mod}
-use Rattle.residues.specs.Moduli.{permits}
-use Rattle.residues.specs.Judgement.{below, bad-entry, bad-sample}
-use Rattle.modular.specs.Verdicts.{permitted-length, scratch-fits, lent-verdict, rest-verdict, accept-verdict, offers, transform-verdict, offers-stage, stage-verdict, inverse-verdict}
-use Rattle.modular.specs.Outcomes.{AcceptOutcome, by-schedule, TransformOutcome, stage-of, StageOutcome, InverseOutcome}
+use Rattle.residues.specs.Moduli.{Permitted, permits, permits-permitted, permitted-permits}
+use Rattle.residues.specs.Judgement.{Below, below, bad-entry, bad-sample, entries-below, below-nowhere}
+use Rattle.modular.specs.Verdicts.{permitted-length, scratch-fits, lent-verdict, rest-verdict, accept-verdict, offers, transform-verdict, offers-stage, stage-verdict, inverse-verdict, reverse-verdict}
+use Rattle.modular.specs.Outcomes.{AcceptOutcome, by-schedule, TransformOutcome, stage-of, StageOutcome, InverseOutcome, ReverseOutcome}
 use Rattle.modular.specs.Ready.{Ready, transform-ready, offers-range, stage-ready, inverse-ready}
 
 -- ---- accepted means that x^(N/2) is -1
@@ -33,6 +35,11 @@ accept-accepted {m} {table} outcome passed =
     let modulus = unless-done (permits m) (refuse 2) _ (omega arith) (rw (outcome .answers) at passed) in
     let size = unless-done (permitted-length (length table + length table)) (refuse 3) _ (omega arith) (modulus .1) in
     nowhere-passed (rule m (length table) (at table)) (suc (length table)) (judged-done 4 (bad-entry m table) done (omega arith) (size .1) .0)
+
+-- With a permitted modulus and length an accepted table is answered 0.
+pub accepted-accept : (m : ℕ) (table : List ℕ) → Permitted m → permitted-length (length table + length table) ≡ true → Accepted m (length table) (at table) → accept-verdict m table ≡ done
+unfolding accept-verdict
+accepted-accept m table permitted long accepted = rw (permitted-permits m permitted, long, first-passed accepted)
 
 pub accepted-root : (m : ℕ) (table : List ℕ) → 0 < m → Accepted m (length table) (at table) → root m (length table) (at table) ^ length table % m ≡ m - 1
 accepted-root m table pos accepted = root-power m (length table) pos (at table) accepted
@@ -98,9 +105,31 @@ module _ {m : ℕ} {buf table buf′ : List ℕ} {answer : Answer} (outcome : In
   inverse-left : Holds 0 buf′ (length buf) (inverse-mod m (log-of (length buf)) (at table) (at buf))
   inverse-left = holds (outcome .leaves ∙ done-left (inverse-verdict buf m table) _ buf (rw (outcome .answers) at passed))
 
+-- The inverse takes whatever a transform has left.
+lent-again : (m : ℕ) (table buf buf′ : List ℕ) → lent-verdict m table buf .number ≡ 0 → length buf′ ≡ length buf → Below m buf′ → lent-verdict m table buf′ ≡ done
+unfolding lent-verdict
+lent-again m table buf buf′ passed long small =
+    let size = unless-done (eqb (length table) (length buf / 2)) (refuse 3) _ (omega arith) passed in
+    let entries = judged-done 4 (bad-entry m table) _ (omega arith) (size .1) in
+    rw (below-nowhere m buf′ small, long, size .0, entries .0)
+
+pub inverse-follows : {schedule m : ℕ} {buf table scratch buf′ scratch′ : List ℕ} {answer : Answer} → TransformOutcome schedule buf m table scratch answer buf′ scratch′ → answer .number ≡ 0 → inverse-verdict buf′ m table ≡ done
+unfolding inverse-verdict transform-verdict rest-verdict fourier-mod
+inverse-follows {schedule} {m} {buf} {table} {scratch} {buf′} outcome passed =
+    let offer = unless-done (offers schedule) (refuse 7) _ (omega arith) (rw (outcome .answers) at passed) in
+    let long = unless-done (permitted-length (length buf)) (refuse 1) _ (omega arith) (offer .1) in
+    let modulus = unless-done (permits m) (refuse 2) _ (omega arith) (long .1) in
+    let fits = unless-done (scratch-fits schedule (length scratch) (length buf)) (refuse 6) _ (omega arith) (modulus .1) in
+    let same = transform-left outcome passed .long in
+    let pos : 0 < m = omega (arith, permits-permitted m (modulus .0) .least) in
+    let small : Below m buf′ = entries-below pos (λ p h. rw (transform-powers outcome passed p (rw (← same) h)) (mod-lt _ pos)) in
+    rw (same, long .0, modulus .0) (lent-again m table buf buf′ (fits .1) same small)
+
 module _ {schedule m : ℕ} {buf table scratch buf′ scratch′ buf″ : List ℕ} {a b : Answer} (other : eqb schedule 4 ≡ false) where
-  pub inverse-transform : TransformOutcome schedule buf m table scratch a buf′ scratch′ → a .number ≡ 0 → InverseOutcome buf′ m table b buf″ → b .number ≡ 0 → buf″ ≡ buf
-  inverse-transform there passed back passed₂ =
+  pub inverse-transform : TransformOutcome schedule buf m table scratch a buf′ scratch′ → a .number ≡ 0 → InverseOutcome buf′ m table b buf″ → (b ≡ done) × (buf″ ≡ buf)
+  inverse-transform there passed back =
+      let again : b ≡ done = back .answers ∙ inverse-follows there passed in
+      let passed₂ : b .number ≡ 0 = ap (λ (answer : Answer). answer .number) again in
       let r = transform-judged there passed .1 in
       let n = log-of (length buf) in
       let pos : 0 < m = omega (arith, r .judged .modulus .least) in
@@ -108,9 +137,11 @@ module _ {schedule m : ℕ} {buf table scratch buf′ scratch′ buf″ : List �
       let left = rw long at (inverse-left back passed₂) in
       let accepted : Accepted m (2 ^ (n - 1)) (at table) = rw (r .half) at (r .accepted) in
       let sum : (q : ℕ) → q < 2 ^ n → at buf′ q ≡ fourier-mod m (root m (2 ^ (n - 1)) (at table)) (2 ^ n) (at buf) (rev n q) =
-      (λ q l. rw (other, r .half) at (transform-powers there passed q (rw (r .whole) l))) in
-      ext-getD 0 buf″ buf (left .long)
-      (λ p h. let k : p < length buf = omega (arith, left .long) in left .here p k ∙ inverse-sums-mod m pos n (at table) accepted (r .judged .modulus .odd) (at buf) (at buf′) (λ q l. r .judged .values .each q) sum p (rw (← r .whole) k))
+      (λ q l. rw (other, r .half) at (transform-powers there passed q (rw (r .whole) l))) in (
+        again,
+        ext-getD 0 buf″ buf (left .long)
+            (λ p h. let k : p < length buf = omega (arith, left .long) in left .here p k ∙ inverse-sums-mod m pos n (at table) accepted (r .judged .modulus .odd) (at buf) (at buf′) (λ q l. r .judged .values .each q) sum p (rw (← r .whole) k)),
+      )
 
   pub transform-inverse : InverseOutcome buf m table a buf′ → a .number ≡ 0 → TransformOutcome schedule buf′ m table scratch b buf″ scratch′ → b .number ≡ 0 → buf″ ≡ buf
   transform-inverse back passed there passed₂ =
@@ -126,6 +157,38 @@ module _ {schedule m : ℕ} {buf table scratch buf′ scratch′ buf″ : List �
       rw (other, left .long, r .half) at (transform-powers there passed₂ p (rw (left .long) k))
       ∙ fourier-cong m (root m (2 ^ (n - 1)) (at table)) (2 ^ n) (rev n p) (λ i l. left .here i (rw (r .whole) l))
       ∙ sums-inverse-mod m pos n (at table) accepted (r .judged .modulus .odd) (at buf) (λ q l. r .judged .values .each q) p (rw (← r .whole) k))
+
+-- ---- the reversal undoes itself, and puts samples into the order that schedule 4 takes
+
+module _ {buf buf′ : List ℕ} {answer : Answer} (outcome : ReverseOutcome buf answer buf′) (passed : answer .number ≡ 0) where
+  reverse-long : permitted-length (length buf) ≡ true
+  unfolding reverse-verdict
+  reverse-long = unless-done (permitted-length (length buf)) (refuse 1) done (omega arith) (rw (outcome .answers) at passed) .0
+
+  reverse-whole : length buf ≡ 2 ^ log-of (length buf)
+  reverse-whole = permitted-log (length buf) (ltb-true 0 (log-of (length buf)) reverse-long) .0
+
+  reverse-left : Holds 0 buf′ (length buf) (λ p. at buf (rev (log-of (length buf)) p))
+  reverse-left = holds (outcome .leaves ∙ done-left (reverse-verdict buf) _ buf (rw (outcome .answers) at passed))
+
+  -- What stood at p stands at rev p.
+  reverse-back : (p : ℕ) → p < length buf → at buf′ (rev (log-of (length buf)) p) ≡ at buf p
+  reverse-back p h =
+      let n = log-of (length buf) in
+      reverse-left .here (rev n p) (omega (arith, rev-lt n p, reverse-whole)) ∙ ap (at buf) (rev-rev n p (rw (← reverse-whole) h))
+
+pub reverse-reverse : {buf buf′ buf″ : List ℕ} {a b : Answer} → ReverseOutcome buf a buf′ → a .number ≡ 0 → ReverseOutcome buf′ b buf″ → b .number ≡ 0 → buf″ ≡ buf
+reverse-reverse {buf} {buf′} {buf″} there passed back passed₂ =
+    let long = reverse-left there passed .long in
+    let left = rw long at (reverse-left back passed₂) in
+    ext-getD 0 buf″ buf (left .long) (λ p h. let k : p < length buf = omega (arith, left .long) in left .here p k ∙ reverse-back there passed p k)
+
+pub reverse-transform : {m : ℕ} {buf table scratch buf′ scratch′ buf″ : List ℕ} {a b : Answer} → ReverseOutcome buf a buf′ → a .number ≡ 0 → TransformOutcome 4 buf′ m table scratch b buf″ scratch′ → b .number ≡ 0 →
+    (p : ℕ) → p < length buf → at buf″ p ≡ fourier-mod m (root m (length table) (at table)) (length buf) (at buf) p
+reverse-transform {m} {buf} {table} there passed after passed₂ p h =
+    let long = reverse-left there passed .long in
+    rw long at (transform-sums after passed₂ p (rw long h))
+    ∙ fourier-cong m (root m (length table) (at table)) (length buf) p (λ i l. reverse-back there passed i l)
 
 -- ---- a single stage takes Dijkstra's array to the next: by columns for schedule 1, by rows for schedule 2
 

@@ -9,7 +9,7 @@ ghost use Rattle.residues.specs.Moduli.{Permitted};
 ghost use Rattle.modular.specs.Verdicts.{offers, offers-stage, scratch-fits, lent-verdict, rest-verdict, transform-verdict, stage-verdict, inverse-verdict};
 
 // The table by 3 and 4, and the samples by 5.
-pub fn judge_lent(buf: &[u32], m: u32, table: &[u32]) -> Answer
+fn judge_lent(buf: &[u32], m: u32, table: &[u32]) -> Answer
     requires { ⌜ Permitted m ⌝ }
     requires { ⌜ 1 ≤ length (now buf) / 2 ⌝ }
     ensures { λ r. ⌜ r ≡ lent-verdict m (now (table .entry)) (now (buf .entry)) ⌝ }
@@ -29,7 +29,7 @@ pub fn judge_lent(buf: &[u32], m: u32, table: &[u32]) -> Answer
     answer::DONE
 }
 
-// Whether scratch counts for the schedule and is not as long as the data.
+// Whether scratch is as long as the data, where it counts for the schedule.
 fn scratch_fits(schedule: u32, scratch: usize, len: usize) -> bool
     ensures { λ r. ⌜ r ≡ scratch-fits schedule scratch len ⌝ }
 {

@@ -22,35 +22,27 @@ Inv-loop buf₀ table m way stride h i₀ buf i =
 abbrev μ-loop : tie.MeasureT-loop
 μ-loop buf₀ table m way stride h i₀ buf i = h - i
 
--- src/lib.rt:95:5
 loop-holds : tie.Need-loop-holds Inv-loop μ-loop
 loop-holds c = (omega arith, paired-none (record { long = omega arith; here = λ p g. refl }))
 
--- src/lib.rt:96:25
 mul-t12 : tie.Need-mul-t12 Inv-loop μ-loop
 mul-t12 c = search needs
 
--- src/lib.rt:96:25
 slice-read-t14 : tie.Need-slice-read-t14 Inv-loop μ-loop
 slice-read-t14 c = search needs
 
--- src/lib.rt:97:29
 add-t12 : tie.Need-add-t12 Inv-loop μ-loop
 add-t12 c = search needs
 
--- src/lib.rt:97:25
 mul-t15 : tie.Need-mul-t15 Inv-loop μ-loop
 mul-t15 c = search needs
 
--- src/lib.rt:97:25
 slice-read-t14-2 : tie.Need-slice-read-t14-2 Inv-loop μ-loop
 slice-read-t14-2 c = search needs
 
--- src/lib.rt:98:53
 mul-buf : tie.Need-mul-buf Inv-loop μ-loop
 mul-buf c = let s = c .before .before .before .before .before .before in record { fits = omega (arith, exponent-below (s .pre .1 .1 .0) (c .before .before .loop-test .taken) (s .pre .1 .1 .1)) }
 
--- src/lib.rt:98:13
 pair-requires : tie.Need-pair-requires Inv-loop μ-loop
 pair-requires c κs =
     let s = c .before .before .before .before .before .before in
@@ -59,46 +51,36 @@ pair-requires c κs =
     let old = l .inv .1 .left (l .i) k (omega arith) in
     (s .pre .0 .modulus, ((s .pre .0 .entries, s .pre .0 .small), (exponent-below (s .pre .1 .1 .0) k (s .pre .1 .1 .1), (rw (old .low) (s .pre .0 .values .each _), rw (old .high) (s .pre .0 .values .each _)))))
 
--- src/lib.rt:99:9
 mul-buf-2 : tie.Need-mul-buf-2 Inv-loop μ-loop
 mul-buf-2 c = search needs
 
--- src/lib.rt:99:9
 slice-write-buf : tie.Need-slice-write-buf Inv-loop μ-loop
 slice-write-buf c = search needs
 
--- src/lib.rt:100:13
 add-buf : tie.Need-add-buf Inv-loop μ-loop
 add-buf c = search needs
 
--- src/lib.rt:100:9
 mul-buf-3 : tie.Need-mul-buf-3 Inv-loop μ-loop
 mul-buf-3 c = search needs
 
--- src/lib.rt:100:9
 slice-write-buf-2 : tie.Need-slice-write-buf-2 Inv-loop μ-loop
 slice-write-buf-2 c = simp length-set (omega arith)
 
--- src/lib.rt:101:9
 add-i : tie.Need-add-i Inv-loop μ-loop
 add-i c = search needs
 
--- src/lib.rt:95:5
 loop-less : tie.Need-loop-less Inv-loop μ-loop
 loop-less c = search needs
 
--- src/lib.rt:95:5
 loop-again : tie.Need-loop-again Inv-loop μ-loop
 loop-again c =
     let b = c .before .before .before .before in
     let s = b .before .before .before .args in
     (omega arith, block-next (wing (s .way) (s .m .value) (length (s .table .now)) (at (s .table .now))) (s .stride) (s .h) (b .loop .inv .1) (c .before .before .before .loop-test .taken) (c .pair .ensures .0) (c .pair .ensures .1))
 
--- src/lib.rt:87:1
 same-length : tie.Need-same-length Inv-loop μ-loop
 same-length c = search needs
 
--- src/lib.rt:87:1
 returns : tie.Need-returns Inv-loop μ-loop
 returns c = listed (paired-all (c .before .loop .inv .1) (omega arith))
 

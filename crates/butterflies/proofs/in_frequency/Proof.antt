@@ -9,19 +9,15 @@ use Rattle.residues.proofs.minus.Reads as minus-reads
 use Rattle.residues.proofs.plus.Reads as plus-reads
 use Rattle.residues.proofs.times.Reads as times-reads
 
--- src/lib.rt:29:9
 plus-requires : tie.Need-plus-requires
 plus-requires c κs = search needs
 
--- src/lib.rt:30:9
 minus-requires : tie.Need-minus-requires
 minus-requires c κs = search needs
 
--- src/lib.rt:31:9
 times-requires : tie.Need-times-requires
 times-requires c κs = let s = c .before .before in (s .pre .0, (s .pre .1 .2, rw (c .minus .ensures) (mod-lt _ (omega arith))))
 
--- src/lib.rt:24:1
 returns : tie.Need-returns
 returns c = (c .before .before .plus .ensures, (cc))
 

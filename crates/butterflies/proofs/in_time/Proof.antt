@@ -9,19 +9,15 @@ use Rattle.residues.proofs.minus.Reads as minus-reads
 use Rattle.residues.proofs.plus.Reads as plus-reads
 use Rattle.residues.proofs.times.Reads as times-reads
 
--- src/lib.rt:42:9
 times-requires : tie.Need-times-requires
 times-requires c κs = search needs
 
--- src/lib.rt:43:9
 plus-requires : tie.Need-plus-requires
 plus-requires c κs = let s = c .before in (s .pre .0, (s .pre .1 .0, rw (c .times .ensures) (mod-lt _ (omega arith))))
 
--- src/lib.rt:44:9
 minus-requires : tie.Need-minus-requires
 minus-requires c κs = let s = c .before .before in (s .pre .0, (s .pre .1 .0, rw (c .before .times .ensures) (mod-lt _ (omega arith))))
 
--- src/lib.rt:36:1
 returns : tie.Need-returns
 returns c = ((cc), (cc))
 

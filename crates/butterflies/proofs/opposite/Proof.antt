@@ -6,19 +6,15 @@ use Rattle.butterflies.proofs.opposite.Tie as tie
 use Rattle.butterflies.proofs.opposite.Reads as reads
 use Rattle.butterflies.proofs.opposite.Lts as lts
 
--- src/lib.rt:55:9
 returns : tie.Need-returns
 returns c = opposite-none _ _ (c .if1 .taken)
 
--- src/lib.rt:57:14
 add-t5 : tie.Need-add-t5
 add-t5 c = search needs
 
--- src/lib.rt:57:14
 sub-t6 : tie.Need-sub-t6
 sub-t6 c = search needs
 
--- src/lib.rt:49:1
 returns-2 : tie.Need-returns-2
 returns-2 c = opposite-some _ _ (omega arith) (c .if1 .left)
 

@@ -31,38 +31,30 @@ room c =
     let long = l .inv .2 .long in
     omega arith
 
--- src/lib.rt:113:16
 add-size : tie.Need-add-size Inv-loop μ-loop
 add-size c =
     let s = c .before .before in
     let k = block-room 0 (s .args .stride) (s .args .h) (s .pre .1 .1 .0) (s .pre .1 .0) in
     record { fits = omega arith }
 
--- src/lib.rt:116:5
 loop-holds : tie.Need-loop-holds Inv-loop μ-loop
 loop-holds c = (omega arith, omega arith, written-none (holds-self _))
 
--- src/lib.rt:117:30
 add-block : tie.Need-add-block Inv-loop μ-loop
 add-block c = let k = room c in record { fits = omega arith }
 
--- src/lib.rt:117:15
 mul-block : tie.Need-mul-block Inv-loop μ-loop
 mul-block c = let k = room c in record { fits = omega arith }
 
--- src/lib.rt:117:15
 sub-block : tie.Need-sub-block Inv-loop μ-loop
 sub-block c = search needs
 
--- src/lib.rt:117:15
 part-block-start : tie.Need-part-block-start Inv-loop μ-loop
 part-block-start c = search needs
 
--- src/lib.rt:117:15
 part-block-end : tie.Need-part-block-end Inv-loop μ-loop
 part-block-end c = let k = room c in omega arith
 
--- src/lib.rt:117:9
 block-requires : tie.Need-block-requires Inv-loop μ-loop
 block-requires c κs =
     let s = c .before .before .before .before .before in
@@ -75,19 +67,15 @@ block-requires c κs =
       (mid .long ∙ size, (s .pre .1 .1 .0, s .pre .1 .1 .1)),
     )
 
--- src/lib.rt:118:9
 add-base : tie.Need-add-base Inv-loop μ-loop
 add-base c = let k = room (c .before .before .before .before) in record { fits = omega arith }
 
--- src/lib.rt:119:9
 add-j : tie.Need-add-j Inv-loop μ-loop
 add-j c = search needs
 
--- src/lib.rt:116:5
 loop-less : tie.Need-loop-less Inv-loop μ-loop
 loop-less c = search needs
 
--- src/lib.rt:116:5
 loop-again : tie.Need-loop-again Inv-loop μ-loop
 loop-again c =
     let i = c .before .before .before .before in
@@ -97,11 +85,9 @@ loop-again c =
     let k = room i in
     (omega arith, omega arith, stage-next (wing (s .way) (s .m .value) (length (s .table .now)) (at (s .table .now))) (s .stride) (s .h) (l .inv .2) (l .j) (l .base + (s .h + s .h) - l .base) (l .inv .1) (omega arith) (omega arith) (omega arith) (c .before .before .block .ensures))
 
--- src/lib.rt:106:1
 same-length : tie.Need-same-length Inv-loop μ-loop
 same-length c = search needs
 
--- src/lib.rt:106:1
 returns : tie.Need-returns Inv-loop μ-loop
 returns c =
     let s = c .before .before .before .before in

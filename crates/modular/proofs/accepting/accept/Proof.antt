@@ -22,40 +22,32 @@ modulus c = passed (c .before .permitted .ensures) (c .if1 .left)
 size : (c : tie.Else2) → (let t = c .before .before .before .before .before .args .table .now in permitted-length (length t + length t) ≡ true)
 size c = long _ (c .before .log-of .ensures) (c .if2 .left)
 
--- src/accepting.rt:11:9
 permitted-requires : tie.Need-permitted-requires
 permitted-requires c κs = search needs
 
--- src/accepting.rt:12:9
 returns : tie.Need-returns
 unfolding accept-verdict
 returns c = record { answers = rw (failed (c .before .permitted .ensures) (c .if1 .taken)) }
 
--- src/accepting.rt:14:23
 add-log-of : tie.Need-add-log-of
 add-log-of c = search needs
 
--- src/accepting.rt:14:8
 log-of-requires : tie.Need-log-of-requires
 log-of-requires c κs = search needs
 
--- src/accepting.rt:15:9
 returns-2 : tie.Need-returns-2
 unfolding accept-verdict
 returns-2 c = record { answers = rw (modulus (c .before .before), ← c .before .log-of .ensures, c .if2 .taken) }
 
--- src/accepting.rt:17:9
 judge-table-requires : tie.Need-judge-table-requires
 judge-table-requires c κs =
     let t = c .before .before .before .before .before .args .table .now in
     let half = long-half (length t + length t) (size c) in
     (permits-permitted _ (modulus (c .before .before)), omega arith)
 
--- src/accepting.rt:18:22
 enum-known-entry : tie.Need-enum-known-entry
 enum-known-entry c = search needs
 
--- src/accepting.rt:19:9
 returns-3 : tie.Need-returns-3
 unfolding accept-verdict
 returns-3 c = let e = c .before .before .before .before in record { answers = rw (modulus (e .before .before), size e, ← c .before .before .before .judge-table .ensures, c .before .entry .given .1) }
@@ -63,7 +55,6 @@ returns-3 c = let e = c .before .before .before .before in record { answers = rw
 enum-told : tie.Need-enum-told
 enum-told c = search needs
 
--- src/accepting.rt:8:1
 returns-4 : tie.Need-returns-4
 unfolding accept-verdict
 returns-4 c = let e = c .before .before .before in record { answers = rw (modulus (e .before .before), size e, ← c .before .before .judge-table .ensures, c .enum-told .given .1) }

@@ -10,23 +10,18 @@ use Rattle.answer.proofs.log_of.Reads as log-of-reads
 use Rattle.modular.proofs.judging.judge_inverse.Reads as judge-inverse-reads
 use Rattle.runs.proofs.invert.Reads as invert-reads
 
--- src/inverting.rt:11:9
 judge-inverse-requires : tie.Need-judge-inverse-requires
 judge-inverse-requires c κs = search needs
 
--- src/inverting.rt:13:9
 same-length : tie.Need-same-length
 same-length c = search needs
 
--- src/inverting.rt:13:9
 returns : tie.Need-returns
 returns c = let e = c .before .before .judge-inverse .ensures in record { answers = e; leaves = refused e (c .if1 .taken) _ _ }
 
--- src/inverting.rt:15:9
 log-of-requires : tie.Need-log-of-requires
 log-of-requires c κs = search needs
 
--- src/inverting.rt:16:5
 invert-requires : tie.Need-invert-requires
 invert-requires c κs =
     let i = c .before .before in
@@ -34,11 +29,9 @@ invert-requires c κs =
     let n = c .before .log-of .ensures in
     (r .judged, (rw n (r .some), rw n (r .whole), rw n (r .half)))
 
--- src/inverting.rt:8:1
 same-length-2 : tie.Need-same-length-2
 same-length-2 c = search needs
 
--- src/inverting.rt:8:1
 returns-2 : tie.Need-returns-2
 returns-2 c =
     let w = c .before .before in

@@ -14,29 +14,24 @@ use Rattle.modular.proofs.inverting.reverse.Lts as lts
 use Rattle.answer.proofs.log_of.Reads as log-of-reads
 use Rattle.runs.proofs.reverse.Reads as reverse-reads
 
--- src/inverting.rt:24:9
 log-of-requires : tie.Need-log-of-requires
 log-of-requires c κs = search needs
 
--- src/inverting.rt:26:9
 returns : tie.Need-returns
 unfolding reverse-verdict
 returns c =
     let e : refuse 1 ≡ reverse-verdict (c .before .before .before .args .buf .now) = rw (← c .before .log-of .ensures, c .if1 .taken) in
     record { answers = e; leaves = refused e (λ z. omega arith) _ _ }
 
--- src/inverting.rt:28:5
 reverse-requires : tie.Need-reverse-requires
 reverse-requires c κs =
     let n = c .before .before .log-of .ensures in
     let power = permitted-log _ (ltb-true 0 _ (long _ n (c .before .if1 .left))) in
     (rw n (power .0), rw n (power .1))
 
--- src/inverting.rt:21:1
 same-length : tie.Need-same-length
 same-length c = search needs
 
--- src/inverting.rt:21:1
 returns-2 : tie.Need-returns-2
 unfolding reverse-verdict
 returns-2 c =

@@ -10,29 +10,23 @@ use Rattle.answer.proofs.log_of.Reads as log-of-reads
 use Rattle.modular.proofs.judging.judge_lent.Reads as judge-lent-reads
 use Rattle.residues.proofs.permitted.Reads as permitted-reads
 
--- src/judging.rt:120:8
 log-of-requires : tie.Need-log-of-requires
 log-of-requires c κs = search needs
 
--- src/judging.rt:121:9
 returns : tie.Need-returns
 unfolding inverse-verdict
 returns c = rw (← c .before .log-of .ensures, c .if1 .taken)
 
--- src/judging.rt:123:9
 permitted-requires : tie.Need-permitted-requires
 permitted-requires c κs = search needs
 
--- src/judging.rt:124:9
 returns-2 : tie.Need-returns-2
 unfolding inverse-verdict
 returns-2 c = let l = c .before .before in rw (long _ (l .before .log-of .ensures) (l .if1 .left), failed (c .before .permitted .ensures) (c .if2 .taken))
 
--- src/judging.rt:126:5
 judge-lent-requires : tie.Need-judge-lent-requires
 judge-lent-requires c κs = let l = c .before .before in (permits-permitted _ (passed (c .before .permitted .ensures) (c .if2 .left)), long-half _ (long _ (l .before .log-of .ensures) (l .if1 .left)))
 
--- src/judging.rt:117:1
 returns-3 : tie.Need-returns-3
 unfolding inverse-verdict
 returns-3 c =

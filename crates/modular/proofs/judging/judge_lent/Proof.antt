@@ -10,20 +10,16 @@ use Rattle.modular.proofs.judging.judge_lent.Lts as lts
 use Rattle.residues.proofs.judge_samples.Reads as judge-samples-reads
 use Rattle.residues.proofs.judge_table.Reads as judge-table-reads
 
--- src/judging.rt:17:9
 returns : tie.Need-returns
 unfolding lent-verdict
 returns c = let s = c .before .before .before .args in rw (ne-eqb (length (s .table .now)) (length (s .buf .now) / 2) (c .if1 .taken))
 
--- src/judging.rt:20:9
 judge-table-requires : tie.Need-judge-table-requires
 judge-table-requires c κs = search needs
 
--- src/judging.rt:21:22
 enum-known-entry : tie.Need-enum-known-entry
 enum-known-entry c = search needs
 
--- src/judging.rt:22:9
 returns-2 : tie.Need-returns-2
 unfolding lent-verdict
 returns-2 c = let t = c .before .before .before in rw (eq-eqb _ _ (t .before .if1 .left), ← t .judge-table .ensures, c .before .entry .given .1)
@@ -31,15 +27,12 @@ returns-2 c = let t = c .before .before .before in rw (eq-eqb _ _ (t .before .if
 enum-told : tie.Need-enum-told
 enum-told c = search needs
 
--- src/judging.rt:24:9
 judge-samples-requires : tie.Need-judge-samples-requires
 judge-samples-requires c κs = search needs
 
--- src/judging.rt:25:22
 enum-known-sample : tie.Need-enum-known-sample
 enum-known-sample c = search needs
 
--- src/judging.rt:26:9
 returns-3 : tie.Need-returns-3
 unfolding lent-verdict
 returns-3 c =
@@ -50,7 +43,6 @@ returns-3 c =
 enum-told-2 : tie.Need-enum-told-2
 enum-told-2 c = search needs
 
--- src/judging.rt:11:1
 returns-4 : tie.Need-returns-4
 unfolding lent-verdict
 returns-4 c =

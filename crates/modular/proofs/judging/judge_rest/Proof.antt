@@ -11,29 +11,23 @@ use Rattle.modular.proofs.judging.judge_lent.Reads as judge-lent-reads
 use Rattle.modular.proofs.judging.scratch_fits.Reads as scratch-fits-reads
 use Rattle.residues.proofs.permitted.Reads as permitted-reads
 
--- src/judging.rt:49:9
 permitted-requires : tie.Need-permitted-requires
 permitted-requires c κs = search needs
 
--- src/judging.rt:50:9
 returns : tie.Need-returns
 unfolding rest-verdict
 returns c = rw (failed (c .before .permitted .ensures) (c .if1 .taken))
 
--- src/judging.rt:52:9
 scratch-fits-requires : tie.Need-scratch-fits-requires
 scratch-fits-requires c κs = search needs
 
--- src/judging.rt:53:9
 returns-2 : tie.Need-returns-2
 unfolding rest-verdict
 returns-2 c = rw (passed (c .before .before .before .permitted .ensures) (c .before .before .if1 .left), failed (c .before .scratch-fits .ensures) (c .if2 .taken))
 
--- src/judging.rt:55:5
 judge-lent-requires : tie.Need-judge-lent-requires
 judge-lent-requires c κs = (permits-permitted _ (passed (c .before .before .before .permitted .ensures) (c .before .before .if1 .left)), omega arith)
 
--- src/judging.rt:45:1
 returns-3 : tie.Need-returns-3
 unfolding rest-verdict
 returns-3 c = let e = c .before in rw (passed (e .before .before .before .permitted .ensures) (e .before .before .if1 .left), passed (e .before .scratch-fits .ensures) (e .if2 .left)) (c .judge-lent .ensures)

@@ -10,25 +10,20 @@ use Rattle.answer.proofs.log_of.Reads as log-of-reads
 use Rattle.modular.proofs.judging.judge_rest.Reads as judge-rest-reads
 use Rattle.modular.proofs.judging.offered_stage.Reads as offered-stage-reads
 
--- src/judging.rt:89:9
 offered-stage-requires : tie.Need-offered-stage-requires
 offered-stage-requires c κs = search needs
 
--- src/judging.rt:90:9
 returns : tie.Need-returns
 unfolding stage-verdict
 returns c = rw (failed (c .before .offered-stage .ensures) (c .if1 .taken))
 
--- src/judging.rt:92:9
 log-of-requires : tie.Need-log-of-requires
 log-of-requires c κs = search needs
 
--- src/judging.rt:94:9
 returns-2 : tie.Need-returns-2
 unfolding stage-verdict
 returns-2 c = rw (passed (c .before .before .before .offered-stage .ensures) (c .before .before .if1 .left), ← c .before .log-of .ensures, c .if2 .taken)
 
--- src/judging.rt:97:9
 returns-3 : tie.Need-returns-3
 unfolding stage-verdict
 returns-3 c =
@@ -36,11 +31,9 @@ returns-3 c =
     let n = e .before .log-of .ensures in
     rw (passed (e .before .before .before .offered-stage .ensures) (e .before .before .if1 .left), long _ n (e .if2 .left), ← n, le-ltb (e .before .before .before .before .before .before .args .s) (e .before .log-of .result) (c .if3 .taken))
 
--- src/judging.rt:99:5
 judge-rest-requires : tie.Need-judge-rest-requires
 judge-rest-requires c κs = let e = c .before in long-half _ (long _ (e .before .log-of .ensures) (e .if2 .left))
 
--- src/judging.rt:86:1
 returns-4 : tie.Need-returns-4
 unfolding stage-verdict
 returns-4 c =

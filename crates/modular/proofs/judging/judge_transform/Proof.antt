@@ -9,29 +9,23 @@ use Rattle.answer.proofs.log_of.Reads as log-of-reads
 use Rattle.modular.proofs.judging.judge_rest.Reads as judge-rest-reads
 use Rattle.modular.proofs.judging.offered.Reads as offered-reads
 
--- src/judging.rt:76:9
 offered-requires : tie.Need-offered-requires
 offered-requires c κs = search needs
 
--- src/judging.rt:77:9
 returns : tie.Need-returns
 unfolding transform-verdict
 returns c = rw (failed (c .before .offered .ensures) (c .if1 .taken))
 
--- src/judging.rt:79:8
 log-of-requires : tie.Need-log-of-requires
 log-of-requires c κs = search needs
 
--- src/judging.rt:80:9
 returns-2 : tie.Need-returns-2
 unfolding transform-verdict
 returns-2 c = rw (passed (c .before .before .before .offered .ensures) (c .before .before .if1 .left), ← c .before .log-of .ensures, c .if2 .taken)
 
--- src/judging.rt:82:5
 judge-rest-requires : tie.Need-judge-rest-requires
 judge-rest-requires c κs = long-half _ (long _ (c .before .log-of .ensures) (c .if2 .left))
 
--- src/judging.rt:73:1
 returns-3 : tie.Need-returns-3
 unfolding transform-verdict
 returns-3 c = let e = c .before in rw (passed (e .before .before .before .offered .ensures) (e .before .before .if1 .left), long _ (e .before .log-of .ensures) (e .if2 .left)) (c .judge-rest .ensures)

@@ -5,12 +5,10 @@ use Rattle.modular.proofs.judging.offered.Tie as tie
 use Rattle.modular.proofs.judging.offered.Reads as reads
 use Rattle.modular.proofs.judging.offered.Lts as lts
 
--- src/judging.rt:64:9
 returns : tie.Need-returns
 unfolding offers
 returns c = rw (lt-leb 1 _ (c .if1 .taken))
 
--- src/judging.rt:60:1
 returns-2 : tie.Need-returns-2
 unfolding offers
 returns-2 c = rw (le-leb 1 _ (c .if1 .left))

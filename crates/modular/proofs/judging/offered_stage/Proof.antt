@@ -5,12 +5,10 @@ use Rattle.modular.proofs.judging.offered_stage.Tie as tie
 use Rattle.modular.proofs.judging.offered_stage.Reads as reads
 use Rattle.modular.proofs.judging.offered_stage.Lts as lts
 
--- src/judging.rt:74:9
 returns : tie.Need-returns
 unfolding offers-stage
 returns c = rw (lt-leb 1 _ (c .if1 .taken))
 
--- src/judging.rt:70:1
 returns-2 : tie.Need-returns-2
 unfolding offers-stage
 returns-2 c = rw (le-leb 1 _ (c .if1 .left))

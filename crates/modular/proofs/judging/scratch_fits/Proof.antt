@@ -5,17 +5,14 @@ use Rattle.modular.proofs.judging.scratch_fits.Tie as tie
 use Rattle.modular.proofs.judging.scratch_fits.Reads as reads
 use Rattle.modular.proofs.judging.scratch_fits.Lts as lts
 
--- src/judging.rt:36:9
 returns : tie.Need-returns
 unfolding scratch-fits
 returns c = rw (c .if1 .taken)
 
--- src/judging.rt:39:9
 returns-2 : tie.Need-returns-2
 unfolding scratch-fits
 returns-2 c = rw (c .if2 .taken)
 
--- src/judging.rt:32:1
 returns-3 : tie.Need-returns-3
 unfolding scratch-fits
 returns-3 c = rw (ne-eqb _ _ (c .before .if1 .left), ne-eqb _ _ (c .if2 .left))

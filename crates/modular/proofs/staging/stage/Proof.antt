@@ -19,25 +19,20 @@ use Rattle.modular.proofs.working.do_stage.Reads as do-stage-reads
 ready : (c : tie.Else1) → (let s = c .before .before .before .before .before .before .before .args in (offers-stage (s .schedule) ≡ true) × (s .s < log-of (length (s .buf .now))) × (Ready (s .buf .now) (s .m) (s .table .now)) × (scratch-fits (s .schedule) (length (s .scratch .now)) (length (s .buf .now)) ≡ true))
 ready c = stage-ready _ _ _ _ _ _ (rw (c .before .before .judge-stage .ensures) at (c .if1 .left))
 
--- src/staging.rt:20:9
 judge-stage-requires : tie.Need-judge-stage-requires
 judge-stage-requires c κs = search needs
 
--- src/staging.rt:22:9
 same-length : tie.Need-same-length
 same-length c = search needs
 
--- src/staging.rt:22:9
 returns : tie.Need-returns
 returns c =
     let e = c .before .before .judge-stage .ensures in
     record { answers = e; leaves = refused e (c .if1 .taken) _ _; clears = refused e (c .if1 .taken) _ _ }
 
--- src/staging.rt:24:9
 log-of-requires : tie.Need-log-of-requires
 log-of-requires c κs = search needs
 
--- src/staging.rt:25:5
 do-stage-requires : tie.Need-do-stage-requires
 do-stage-requires c κs =
     let r = ready (c .before .before .before) in
@@ -45,15 +40,12 @@ do-stage-requires c κs =
     let range = offers-stage-range _ (r .0) in
     (r .2 .judged, ((rw n (r .1), rw n (r .2 .whole), rw n (r .2 .half)), (range .0, range .1, r .3)))
 
--- src/staging.rt:9:1
 same-length-2 : tie.Need-same-length-2
 same-length-2 c = search needs
 
--- src/staging.rt:9:1
 same-length-3 : tie.Need-same-length-3
 same-length-3 c = search needs
 
--- src/staging.rt:9:1
 returns-2 : tie.Need-returns-2
 returns-2 c =
     let w = c .before .before .before .before in

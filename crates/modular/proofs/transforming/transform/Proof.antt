@@ -18,25 +18,20 @@ use Rattle.modular.proofs.working.do_schedule.Reads as do-schedule-read
 ready : (c : tie.Else1) → (let s = c .before .before .before .before .before .before .before .args in (offers (s .schedule) ≡ true) × (Ready (s .buf .now) (s .m) (s .table .now)) × (scratch-fits (s .schedule) (length (s .scratch .now)) (length (s .buf .now)) ≡ true))
 ready c = transform-ready _ _ _ _ _ (rw (c .before .before .judge-transform .ensures) at (c .if1 .left))
 
--- src/transforming.rt:20:9
 judge-transform-requires : tie.Need-judge-transform-requires
 judge-transform-requires c κs = search needs
 
--- src/transforming.rt:22:9
 same-length : tie.Need-same-length
 same-length c = search needs
 
--- src/transforming.rt:22:9
 returns : tie.Need-returns
 returns c =
     let e = c .before .before .judge-transform .ensures in
     record { answers = e; leaves = refused e (c .if1 .taken) _ _; clears = refused e (c .if1 .taken) _ _ }
 
--- src/transforming.rt:24:9
 log-of-requires : tie.Need-log-of-requires
 log-of-requires c κs = search needs
 
--- src/transforming.rt:25:5
 do-schedule-requires : tie.Need-do-schedule-requires
 do-schedule-requires c κs =
     let r = ready (c .before .before .before) in
@@ -44,15 +39,12 @@ do-schedule-requires c κs =
     let range = offers-range _ (r .0) in
     (r .1 .judged, ((rw n (r .1 .some), rw n (r .1 .whole), rw n (r .1 .half)), (range .0, range .1, r .2)))
 
--- src/transforming.rt:10:1
 same-length-2 : tie.Need-same-length-2
 same-length-2 c = search needs
 
--- src/transforming.rt:10:1
 same-length-3 : tie.Need-same-length-3
 same-length-3 c = search needs
 
--- src/transforming.rt:10:1
 returns-2 : tie.Need-returns-2
 returns-2 c =
     let w = c .before .before .before .before in

@@ -23,15 +23,12 @@ pease c =
     let s = c .before .before .before .before .before .before .before in
     omega (arith, s .pre .1 .1 .0, s .pre .1 .1 .1, c .if4 .left, c .before .if3 .left, c .before .before .if2 .left, c .before .before .before .if1 .left)
 
--- src/working.rt:25:9
 by-columns-requires : tie.Need-by-columns-requires
 by-columns-requires c κs = search needs
 
--- src/working.rt:26:9
 same-length : tie.Need-same-length
 same-length c = search needs
 
--- src/working.rt:26:9
 returns : tie.Need-returns
 unfolding by-schedule
 returns c =
@@ -39,21 +36,17 @@ returns c =
     let s = i .before .before .before .before .args in
     (rw (i .if1 .taken) (c .before .before .by-columns .ensures), untouched (s .schedule) (s .scratch .now) (rw (i .if1 .taken)))
 
--- src/working.rt:29:9
 by-shuffle-requires : tie.Need-by-shuffle-requires
 by-shuffle-requires c κs =
     let s = c .before .before .before .before .before .before .before in
     (s .pre .0, (s .pre .1 .0, scratch-long (s .args .schedule) (length (s .args .scratch .now)) (length (s .args .buf .now)) (rw (c .before .before .if2 .taken)) (s .pre .1 .1 .2)))
 
--- src/working.rt:30:9
 same-length-2 : tie.Need-same-length-2
 same-length-2 c = search needs
 
--- src/working.rt:30:9
 same-length-3 : tie.Need-same-length-3
 same-length-3 c = search needs
 
--- src/working.rt:30:9
 returns-2 : tie.Need-returns-2
 unfolding by-schedule
 returns-2 c =
@@ -62,18 +55,15 @@ returns-2 c =
     let s = i .before .before .before .before .before .args in
     (rw (i .if2 .taken) (w .by-shuffle .ensures .0), w .by-shuffle .ensures .1 ∙ zeroed (s .schedule) (s .scratch .now) (rw (i .if2 .taken)))
 
--- src/working.rt:33:9
 by-halves-requires : tie.Need-by-halves-requires
 by-halves-requires c κs =
     let s = c .before .before .before .before .before .before .before in
     let whole = two-halves (s .args .n) (s .pre .1 .0 .0) in
     (s .pre .0, ((s .args .n, s .pre .1 .0 .1), (omega arith, omega (arith, s .pre .1 .0 .1, s .pre .1 .0 .2))))
 
--- src/working.rt:34:9
 same-length-4 : tie.Need-same-length-4
 same-length-4 c = search needs
 
--- src/working.rt:34:9
 returns-3 : tie.Need-returns-3
 unfolding by-schedule
 returns-3 c =
@@ -81,15 +71,12 @@ returns-3 c =
     let s = i .before .before .before .before .before .before in
     (rw (i .if3 .taken) (rw halves-once at (c .before .before .by-halves .ensures (s .args .n) (s .pre .1 .0 .1))), untouched (s .args .schedule) (s .args .scratch .now) (rw (i .if3 .taken)))
 
--- src/working.rt:37:9
 by-thong-requires : tie.Need-by-thong-requires
 by-thong-requires c κs = search needs
 
--- src/working.rt:38:9
 same-length-5 : tie.Need-same-length-5
 same-length-5 c = search needs
 
--- src/working.rt:38:9
 returns-4 : tie.Need-returns-4
 unfolding by-schedule
 returns-4 c =
@@ -97,21 +84,17 @@ returns-4 c =
     let s = i .before .before .before .before .before .before .before .args in
     (rw (i .if4 .taken) (c .before .before .by-thong .ensures), untouched (s .schedule) (s .scratch .now) (rw (i .if4 .taken)))
 
--- src/working.rt:40:5
 by-pease-requires : tie.Need-by-pease-requires
 by-pease-requires c κs =
     let s = c .before .before .before .before .before .before .before .before .before in
     (s .pre .0, (s .pre .1 .0, scratch-long (s .args .schedule) (length (s .args .scratch .now)) (length (s .args .buf .now)) (rw (pease (c .before .before))) (s .pre .1 .1 .2)))
 
--- src/working.rt:16:1
 same-length-6 : tie.Need-same-length-6
 same-length-6 c = search needs
 
--- src/working.rt:16:1
 same-length-7 : tie.Need-same-length-7
 same-length-7 c = search needs
 
--- src/working.rt:16:1
 returns-5 : tie.Need-returns-5
 unfolding by-schedule
 returns-5 c =

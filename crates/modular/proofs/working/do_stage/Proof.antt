@@ -15,15 +15,12 @@ use Rattle.shuffles.proofs.single.Reads as single-reads
 two : (c : tie.Else1) → c .before .before .before .before .args .schedule ≡ 2
 two c = let s = c .before .before .before .before in omega (arith, s .pre .1 .1 .0, s .pre .1 .1 .1, c .if1 .left)
 
--- src/working.rt:53:9
 column-stage-requires : tie.Need-column-stage-requires
 column-stage-requires c κs = search needs
 
--- src/working.rt:54:9
 same-length : tie.Need-same-length
 same-length c = search needs
 
--- src/working.rt:54:9
 returns : tie.Need-returns
 unfolding stage-of
 returns c =
@@ -31,21 +28,17 @@ returns c =
     let s = i .before .before .before .before .args in
     (rw (i .if1 .taken) (c .before .before .column-stage .ensures), untouched (s .schedule) (s .scratch .now) (rw (i .if1 .taken)))
 
--- src/working.rt:56:5
 single-requires : tie.Need-single-requires
 single-requires c κs =
     let s = c .before .before .before .before .before .before in
     (s .pre .0, (s .pre .1 .0, scratch-long (s .args .schedule) (length (s .args .scratch .now)) (length (s .args .buf .now)) (rw (two (c .before .before))) (s .pre .1 .1 .2)))
 
--- src/working.rt:44:1
 same-length-2 : tie.Need-same-length-2
 same-length-2 c = search needs
 
--- src/working.rt:44:1
 same-length-3 : tie.Need-same-length-3
 same-length-3 c = search needs
 
--- src/working.rt:44:1
 returns-2 : tie.Need-returns-2
 unfolding stage-of
 returns-2 c =

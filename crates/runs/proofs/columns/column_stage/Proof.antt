@@ -24,38 +24,30 @@ sized c k =
     let l = c .loop in
     fits (l .i) (s .args .n - (l .i + 1)) (omega arith) (l .inv .1 .doubled) (sized-next (l .inv .1) k .halved) (s .pre .1 .1) (s .pre .1 .2)
 
--- src/columns.rt:40:5
 loop-holds : tie.Need-loop-holds Inv-loop μ-loop
 loop-holds c = let s = c .before .before in (omega arith, sized-none (s .args .n) (s .pre .1 .1))
 
--- src/columns.rt:41:9
 add-columns : tie.Need-add-columns Inv-loop μ-loop
 add-columns c = let k = sized (c .before) (omega arith) in record { fits = omega arith }
 
--- src/columns.rt:43:9
 add-i : tie.Need-add-i Inv-loop μ-loop
 add-i c = search needs
 
--- src/columns.rt:40:5
 loop-less : tie.Need-loop-less Inv-loop μ-loop
 loop-less c = search needs
 
--- src/columns.rt:40:5
 loop-again : tie.Need-loop-again Inv-loop μ-loop
 loop-again c = let l = c .before .loop in (omega arith, sized-next (l .inv .1) (omega arith))
 
--- src/columns.rt:45:5
 stage-requires : tie.Need-stage-requires Inv-loop μ-loop
 stage-requires c κs =
     let s = c .before .before .before .before .before in
     let k = sized (c .before .before) (omega arith) in
     (s .pre .0, (k .buffer, (k .some .0, k .table)))
 
--- src/columns.rt:31:1
 same-length : tie.Need-same-length Inv-loop μ-loop
 same-length c = search needs
 
--- src/columns.rt:31:1
 returns : tie.Need-returns Inv-loop μ-loop
 returns c =
     let a = c .before .before .before .before .before in

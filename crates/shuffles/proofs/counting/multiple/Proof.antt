@@ -7,15 +7,12 @@ use Rattle.shuffles.proofs.counting.multiple.Tie as tie
 use Rattle.shuffles.proofs.counting.multiple.Reads as reads
 use Rattle.shuffles.proofs.counting.multiple.Lts as lts
 
--- src/counting.rt:27:5
 shr-result : tie.Need-shr-result
 shr-result c = search needs
 
--- src/counting.rt:27:5
 shl-result : tie.Need-shl-result
 shl-result c = search needs
 
--- src/counting.rt:23:1
 returns : tie.Need-returns
 returns c = shifted (c .args .k) (c .args .s) 64 (omega arith)
 

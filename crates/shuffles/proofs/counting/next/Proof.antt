@@ -10,29 +10,23 @@ use Rattle.shuffles.proofs.counting.next.Lts as lts
 use Rattle.shuffles.proofs.counting.multiple.Reads as multiple-reads
 use Rattle.shuffles.proofs.counting.reversed.Reads as reversed-reads
 
--- src/counting.rt:16:27
 enum-told : tie.Need-enum-told
 enum-told c = search needs
 
--- src/counting.rt:16:27
 add-multiple : tie.Need-add-multiple
 add-multiple c = search needs
 
--- src/counting.rt:16:18
 multiple-requires : tie.Need-multiple-requires
 multiple-requires c κs = search needs
 
--- src/counting.rt:18:18
 reversed-requires : tie.Need-reversed-requires
 reversed-requires c κs =
     let s = c .before in
     (s .pre .0, s .pre .1 ∙ exponents-reversed (s .args .way) (c .match .keys2) (s .args .n) (s .args .s) (s .args .k))
 
--- src/counting.rt:10:1
 returns : tie.Need-returns
 returns c = rw (c .before .enum-told .given .1) (c .multiple .ensures)
 
--- src/counting.rt:10:1
 returns-2 : tie.Need-returns-2
 returns-2 c =
     let s = c .before .before in

@@ -18,21 +18,17 @@ Inv-loop e k n s rest₀ high₀ bit₀ left₀ rest high bit left = Counts (2 ^
 abbrev μ-loop : tie.MeasureT-loop
 μ-loop e k n s rest₀ high₀ bit₀ left₀ rest high bit left = left
 
--- src/counting.rt:29:25
 sub-bit : tie.Need-sub-bit Inv-loop μ-loop
 sub-bit c = search needs
 
--- src/counting.rt:29:19
 shl-bit : tie.Need-shl-bit Inv-loop μ-loop
 shl-bit c = search needs
 
--- src/counting.rt:31:5
 loop-holds : tie.Need-loop-holds Inv-loop μ-loop
 loop-holds c =
     let small = half-small (c .args .n) (omega arith) in
     counts-start (rw one-mul (mod-eq-of-lt (omega arith)) ∙ sym (half-buffer (c .pre .0 .0))) (c .pre .1)
 
--- src/counting.rt:34:20
 add-result : tie.Need-add-result Inv-loop μ-loop
 add-result c =
     let s = c .before .before .before in
@@ -41,27 +37,21 @@ add-result c =
     let small = half-small (s .args .n) (omega arith) in
     record { fits = omega arith }
 
--- src/counting.rt:34:13
 returns : tie.Need-returns Inv-loop μ-loop
 returns c = counts-zero (c .before .before .loop .left) (c .before .before .loop .inv) (c .before .loop-test .taken) (c .if1 .taken)
 
--- src/counting.rt:36:9
 sub-rest : tie.Need-sub-rest Inv-loop μ-loop
 sub-rest c = counts-room (c .before .before .loop .left) (c .before .before .loop .inv) (c .before .loop-test .taken) (omega arith)
 
--- src/counting.rt:38:9
 sub-left : tie.Need-sub-left Inv-loop μ-loop
 sub-left c = search needs
 
--- src/counting.rt:31:5
 loop-less : tie.Need-loop-less Inv-loop μ-loop
 loop-less c = search needs
 
--- src/counting.rt:31:5
 loop-again : tie.Need-loop-again Inv-loop μ-loop
 loop-again c = counts-one (c .before .before .loop .left) (c .before .before .loop .inv) (c .before .loop-test .taken) (omega arith)
 
--- src/counting.rt:22:1
 returns-2 : tie.Need-returns-2 Inv-loop μ-loop
 returns-2 c = counts-none (c .before .loop .inv) (omega arith)
 

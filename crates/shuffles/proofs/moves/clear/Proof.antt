@@ -17,35 +17,27 @@ Inv-loop scratch₀ p₀ scratch p = (p ≤ length scratch₀) × Written 0 scra
 abbrev μ-loop : tie.MeasureT-loop
 μ-loop scratch₀ p₀ scratch p = length scratch₀ - p
 
--- src/moves.rt:23:5
 loop-holds : tie.Need-loop-holds Inv-loop μ-loop
 loop-holds c = (omega arith, written-none (holds-self _))
 
--- src/moves.rt:24:9
 mul-scratch : tie.Need-mul-scratch Inv-loop μ-loop
 mul-scratch c = search needs
 
--- src/moves.rt:24:9
 slice-write-scratch : tie.Need-slice-write-scratch Inv-loop μ-loop
 slice-write-scratch c = search needs
 
--- src/moves.rt:25:9
 add-p : tie.Need-add-p Inv-loop μ-loop
 add-p c = search needs
 
--- src/moves.rt:23:5
 loop-less : tie.Need-loop-less Inv-loop μ-loop
 loop-less c = search needs
 
--- src/moves.rt:23:5
 loop-again : tie.Need-loop-again Inv-loop μ-loop
 loop-again c = (omega arith, written-next (c .before .loop .inv .1) (omega arith) refl)
 
--- src/moves.rt:19:1
 same-length : tie.Need-same-length Inv-loop μ-loop
 same-length c = search needs
 
--- src/moves.rt:19:1
 returns : tie.Need-returns Inv-loop μ-loop
 returns c = listed (written-all (c .before .loop .inv .1) (omega arith))
 

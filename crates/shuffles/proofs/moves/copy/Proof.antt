@@ -17,45 +17,35 @@ Inv-loop from to₀ p₀ to p = (p ≤ length from) × Written 0 to (length from
 abbrev μ-loop : tie.MeasureT-loop
 μ-loop from to₀ p₀ to p = length from - p
 
--- src/moves.rt:12:5
 loop-holds : tie.Need-loop-holds Inv-loop μ-loop
 loop-holds c = (omega arith, written-none (record { long = c .pre; here = λ p h. refl }))
 
--- src/moves.rt:13:17
 mul-to : tie.Need-mul-to Inv-loop μ-loop
 mul-to c = search needs
 
--- src/moves.rt:13:17
 shared-slice-read-to : tie.Need-shared-slice-read-to Inv-loop μ-loop
 shared-slice-read-to c = search needs
 
--- src/moves.rt:13:9
 mul-to-2 : tie.Need-mul-to-2 Inv-loop μ-loop
 mul-to-2 c = search needs
 
--- src/moves.rt:13:9
 slice-write-to : tie.Need-slice-write-to Inv-loop μ-loop
 slice-write-to c = search needs
 
--- src/moves.rt:14:9
 add-p : tie.Need-add-p Inv-loop μ-loop
 add-p c = search needs
 
--- src/moves.rt:12:5
 loop-less : tie.Need-loop-less Inv-loop μ-loop
 loop-less c = search needs
 
--- src/moves.rt:12:5
 loop-again : tie.Need-loop-again Inv-loop μ-loop
 loop-again c =
     let l = c .before .before .loop in
     (omega arith, written-next (l .inv .1) (omega arith) refl)
 
--- src/moves.rt:7:1
 same-length : tie.Need-same-length Inv-loop μ-loop
 same-length c = search needs
 
--- src/moves.rt:7:1
 returns : tie.Need-returns Inv-loop μ-loop
 returns c = listed (written-all (c .before .loop .inv .1) (omega arith)) ∙ tabulate-self 0 _
 

@@ -30,31 +30,24 @@ abbrev μ-loop : tie.MeasureT-loop
 whole : (c : tie.At-loop Inv-loop μ-loop) → (let s = c .before .before .before .before .args in length (s .from .now) ≡ length (s .table .now) + length (s .table .now))
 whole c = let s = c .before .before .before .before in omega (arith, two-halves (s .args .n) (omega arith))
 
--- src/stages.rt:27:5
 loop-holds : tie.Need-loop-holds Inv-loop μ-loop
 loop-holds c = let s = c .before .before .before in (omega arith, exponents-first (s .args .way) (s .args .n) (s .args .s), written-none (record { long = s .pre .1 .1; here = λ p g. refl }))
 
--- src/stages.rt:28:25
 mul-t15 : tie.Need-mul-t15 Inv-loop μ-loop
 mul-t15 c = search needs
 
--- src/stages.rt:28:25
 shared-slice-read-t17 : tie.Need-shared-slice-read-t17 Inv-loop μ-loop
 shared-slice-read-t17 c = let long = whole (c .before .before) in omega arith
 
--- src/stages.rt:29:30
 add-t15 : tie.Need-add-t15 Inv-loop μ-loop
 add-t15 c = search needs
 
--- src/stages.rt:29:25
 mul-t18 : tie.Need-mul-t18 Inv-loop μ-loop
 mul-t18 c = search needs
 
--- src/stages.rt:29:25
 shared-slice-read-t17-2 : tie.Need-shared-slice-read-t17-2 Inv-loop μ-loop
 shared-slice-read-t17-2 c = let long = whole (c .before .before .before) in omega arith
 
--- src/stages.rt:30:13
 pair-requires : tie.Need-pair-requires Inv-loop μ-loop
 pair-requires c κs =
     let l = c .before .before .before in
@@ -62,50 +55,39 @@ pair-requires c κs =
     let below = exponents-below (s .args .n) (s .args .s) (s .pre .1 .0 .0) (s .args .way) (l .loop .k) (omega arith) in
     (s .pre .0 .modulus, ((s .pre .0 .entries, s .pre .0 .small), (omega arith, (s .pre .0 .values .each _, s .pre .0 .values .each _))))
 
--- src/stages.rt:31:12
 mul-to : tie.Need-mul-to Inv-loop μ-loop
 mul-to c = search needs
 
--- src/stages.rt:31:9
 mul-to-2 : tie.Need-mul-to-2 Inv-loop μ-loop
 mul-to-2 c = search needs
 
--- src/stages.rt:31:9
 slice-write-to : tie.Need-slice-write-to Inv-loop μ-loop
 slice-write-to c = let long = whole (c .before .before .before .before) in omega (arith, c .before .before .before .before .loop .inv .2 .long)
 
--- src/stages.rt:32:12
 mul-to-3 : tie.Need-mul-to-3 Inv-loop μ-loop
 mul-to-3 c = search needs
 
--- src/stages.rt:32:12
 add-to : tie.Need-add-to Inv-loop μ-loop
 add-to c = search needs
 
--- src/stages.rt:32:9
 mul-to-4 : tie.Need-mul-to-4 Inv-loop μ-loop
 mul-to-4 c = search needs
 
--- src/stages.rt:32:9
 slice-write-to-2 : tie.Need-slice-write-to-2 Inv-loop μ-loop
 slice-write-to-2 c = let long = whole (c .before .before .before .before) in simp length-set (omega (arith, c .before .before .before .before .loop .inv .2 .long))
 
--- src/stages.rt:33:9
 next-requires : tie.Need-next-requires Inv-loop μ-loop
 next-requires c κs =
     let l = c .before .before .before .before in
     let s = l .before .before .before .before in
     ((s .pre .1 .0 .0, twelve (s .args .n) (omega arith), omega arith), l .loop .inv .1)
 
--- src/stages.rt:34:9
 add-k : tie.Need-add-k Inv-loop μ-loop
 add-k c = search needs
 
--- src/stages.rt:27:5
 loop-less : tie.Need-loop-less Inv-loop μ-loop
 loop-less c = search needs
 
--- src/stages.rt:27:5
 loop-again : tie.Need-loop-again Inv-loop μ-loop
 loop-again c =
     let l = c .before .before .before .before .before in
@@ -114,11 +96,9 @@ loop-again c =
     let long = whole l in
     (omega arith, c .next .ensures, pair-next (wing (s .args .way) (s .args .m .value) (length t) (at t)) _ (exponents (s .args .way) (s .args .n) (s .args .s)) (at (s .args .from .now)) (l .loop .inv .2) (omega arith) (s .pre .1 .0 .2) (l .loop .inv .1) (c .before .pair .ensures .0) (c .before .pair .ensures .1))
 
--- src/stages.rt:17:1
 same-length : tie.Need-same-length Inv-loop μ-loop
 same-length c = search needs
 
--- src/stages.rt:17:1
 returns : tie.Need-returns Inv-loop μ-loop
 returns c = let l = c .before in let long = whole l in listed (written-all (l .loop .inv .2) (omega arith))
 

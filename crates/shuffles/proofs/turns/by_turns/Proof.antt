@@ -36,15 +36,12 @@ there c =
     let l = c .before .before .before .before in
     turn-next (l .loop .inv .2) (omega arith) (l .before .before .before .before .pre .1 .0 .1) (c .stage .ensures)
 
--- src/turns.rt:62:5
 loop-holds : tie.Need-loop-holds Inv-loop μ-loop
 loop-holds c = let s = c .before .before .before in (omega arith, s .pre .1 .1, going-none (s .pre .0))
 
--- src/turns.rt:62:11
 add-loop : tie.Need-add-loop Inv-loop μ-loop
 add-loop c = let k = fit c in record { fits = omega arith }
 
--- src/turns.rt:63:9
 stage-requires : tie.Need-stage-requires Inv-loop μ-loop
 stage-requires c κs =
     let l = c .before .before .before in
@@ -52,11 +49,9 @@ stage-requires c κs =
     let k = fit l in
     (l .loop .inv .2 .judged, ((omega arith, k .0, s .pre .1 .0 .2), k .1))
 
--- src/turns.rt:64:9
 add-s : tie.Need-add-s Inv-loop μ-loop
 add-s c = search needs
 
--- src/turns.rt:65:9
 stage-requires-2 : tie.Need-stage-requires-2 Inv-loop μ-loop
 stage-requires-2 c κs =
     let t = c .before .before .before .before in
@@ -66,15 +61,12 @@ stage-requires-2 c κs =
     let long = t .stage .kept .1 .0 in
     ((there t) .judged, ((t .before .before .before .loop-test .taken, long ∙ k .1 ∙ k .0, s .pre .1 .0 .2), sym (long ∙ k .1)))
 
--- src/turns.rt:66:9
 add-s-2 : tie.Need-add-s-2 Inv-loop μ-loop
 add-s-2 c = search needs
 
--- src/turns.rt:62:5
 loop-less : tie.Need-loop-less Inv-loop μ-loop
 loop-less c = search needs
 
--- src/turns.rt:62:5
 loop-again : tie.Need-loop-again Inv-loop μ-loop
 loop-again c =
     let u = c .before .before in
@@ -84,7 +76,6 @@ loop-again c =
     let test = t .before .before .before .loop-test .taken in
     (omega (arith, test), t .stage .kept .1 .0 ∙ l .loop .inv .1, turn-next (there t) test (s .pre .1 .0 .1) (u .stage2 .ensures))
 
--- src/turns.rt:69:9
 through-scratch-requires : tie.Need-through-scratch-requires Inv-loop μ-loop
 through-scratch-requires c κs =
     let l = c .before .before .before .before in
@@ -92,15 +83,12 @@ through-scratch-requires c κs =
     let k = fit l in
     (l .loop .inv .2 .judged, ((c .before .before .if1 .taken, k .0, s .pre .1 .0 .2), k .1))
 
--- src/turns.rt:70:9
 same-length : tie.Need-same-length Inv-loop μ-loop
 same-length c = search needs
 
--- src/turns.rt:70:9
 same-length-2 : tie.Need-same-length-2 Inv-loop μ-loop
 same-length-2 c = search needs
 
--- src/turns.rt:70:9
 returns : tie.Need-returns Inv-loop μ-loop
 returns c =
     let t = c .before .before .before .before in
@@ -109,19 +97,15 @@ returns c =
     let done = turn-next (l .loop .inv .2) (t .before .before .before .if1 .taken) (s .pre .1 .0 .1) (t .through-scratch .ensures .0) in
     (ran-all (s .args .n) (done .ran) (omega arith), t .through-scratch .ensures .1 ∙ ap zeros (l .loop .inv .1 ∙ sym (s .pre .1 .1)))
 
--- src/turns.rt:72:5
 clear-requires : tie.Need-clear-requires Inv-loop μ-loop
 clear-requires c κs = search needs
 
--- src/turns.rt:53:1
 same-length-3 : tie.Need-same-length-3 Inv-loop μ-loop
 same-length-3 c = search needs
 
--- src/turns.rt:53:1
 same-length-4 : tie.Need-same-length-4 Inv-loop μ-loop
 same-length-4 c = search needs
 
--- src/turns.rt:53:1
 returns-2 : tie.Need-returns-2 Inv-loop μ-loop
 returns-2 c =
     let t = c .before .before in

@@ -10,27 +10,21 @@ use Rattle.shuffles.proofs.moves.clear.Reads as clear-reads
 use Rattle.shuffles.proofs.moves.copy.Reads as copy-reads
 use Rattle.shuffles.proofs.stages.stage.Reads as stage-reads
 
--- src/turns.rt:92:5
 stage-requires : tie.Need-stage-requires
 stage-requires c κs = search needs
 
--- src/turns.rt:93:5
 copy-requires : tie.Need-copy-requires
 copy-requires c κs = search needs
 
--- src/turns.rt:94:5
 clear-requires : tie.Need-clear-requires
 clear-requires c κs = search needs
 
--- src/turns.rt:76:1
 same-length : tie.Need-same-length
 same-length c = search needs
 
--- src/turns.rt:76:1
 same-length-2 : tie.Need-same-length-2
 same-length-2 c = search needs
 
--- src/turns.rt:76:1
 returns : tie.Need-returns
 returns c =
     let copied = c .before .before .before .before .before .before in
