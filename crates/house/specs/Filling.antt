@@ -39,14 +39,14 @@ verdict setting h =
     (unless (turns (setting .modulus) (root-of-table setting h) h) (refuse-at 4 h) done))
 
 -- What filling a table answers and leaves: the powers of the setting's root, or what was there.
-pub record Outcome (setting : Setting) (table : List ℕ) (answer : Answer) (left : List ℕ) : Type 0 where
+pub record FillOutcome (setting : Setting) (table : List ℕ) (answer : Answer) (left : List ℕ) : Type 0 where
   pub answers : answer ≡ verdict setting (length table)
   pub leaves : left ≡ if-done (verdict setting (length table)) (powers (setting .modulus) (root-of-table setting (length table)) (length table)) table
 
 -- ---- no second outcome
 
-pub outcome-unique : {setting : Setting} {table : List ℕ} {a b : Answer} {l k : List ℕ} → Outcome setting table a l → Outcome setting table b k → (a ≡ b) × (l ≡ k)
-outcome-unique x y = (x .answers ∙ sym (y .answers), x .leaves ∙ sym (y .leaves))
+pub fill-functional : {setting : Setting} {table : List ℕ} {a b : Answer} {l k : List ℕ} → FillOutcome setting table a l → FillOutcome setting table b k → (a ≡ b) × (l ≡ k)
+fill-functional x y = (x .answers ∙ sym (y .answers), x .leaves ∙ sym (y .leaves))
 
 -- ---- what it says that nothing is refused
 
@@ -78,7 +78,7 @@ pub record Filled (setting : Setting) (table : List ℕ) : Type 0 where
   pub accepted : Accepted (setting .modulus) (length table) (at table)
   pub rooted : root (setting .modulus) (length table) (at table) ≡ root-of-table setting (length table)
 
-pub filled : {setting : Setting} {table : List ℕ} {answer : Answer} {left : List ℕ} → Outcome setting table answer left → answer .number ≡ 0 → Filled setting left
+pub filled : {setting : Setting} {table : List ℕ} {answer : Answer} {left : List ℕ} → FillOutcome setting table answer left → answer .number ≡ 0 → Filled setting left
 unfolding powers
 filled {setting} {table} {answer} {left} o e =
     let h = length table in
@@ -104,7 +104,7 @@ row-done row n h a b =
       root = rw (e, root-for-row row n a b) (record { below = root-below row h n; turn = root-turns row h n a b });
     })
 
-pub row-fills : (row n : ℕ) → row < 3 → 1 ≤ n → n ≤ 12 → {table : List ℕ} {answer : Answer} {left : List ℕ} → length table ≡ 2 ^ (n - 1) → Outcome (row-setting row) table answer left →
+pub row-fills : (row n : ℕ) → row < 3 → 1 ≤ n → n ≤ 12 → {table : List ℕ} {answer : Answer} {left : List ℕ} → length table ≡ 2 ^ (n - 1) → FillOutcome (row-setting row) table answer left →
     (answer ≡ done) × Filled (row-setting row) left
 row-fills row n h a b {table} {answer} long o =
     let e : answer ≡ done = o .answers ∙ rw long (row-done row n h a b) in

@@ -34,18 +34,18 @@ abbrev pub verdict : ℕ → Answer
 verdict row = unless (ltb row 3) (refuse 9) done
 
 -- What a row yields: the answer, and the row's setting or zeros.
-pub record Outcome (row : ℕ) (answer : Answer) (setting : Setting) : Type 0 where
+pub record SettingOutcome (row : ℕ) (answer : Answer) (setting : Setting) : Type 0 where
   pub answers : answer ≡ verdict row
   pub yields : setting ≡ if-done (verdict row) (row-setting row) zeros
 
 -- ---- no second outcome
 
-pub outcome-unique : {row : ℕ} {a b : Answer} {s t : Setting} → Outcome row a s → Outcome row b t → (a ≡ b) × (s ≡ t)
-outcome-unique x y = (x .answers ∙ sym (y .answers), x .yields ∙ sym (y .yields))
+pub setting-functional : {row : ℕ} {a b : Answer} {s t : Setting} → SettingOutcome row a s → SettingOutcome row b t → (a ≡ b) × (s ≡ t)
+setting-functional x y = (x .answers ∙ sym (y .answers), x .yields ∙ sym (y .yields))
 
 -- ---- each of the three rows yields its setting
 
-pub row-yields : {row : ℕ} {answer : Answer} {setting : Setting} → row < 3 → Outcome row answer setting → (answer ≡ done) × (setting ≡ row-setting row)
+pub row-yields : {row : ℕ} {answer : Answer} {setting : Setting} → row < 3 → SettingOutcome row answer setting → (answer ≡ done) × (setting ≡ row-setting row)
 row-yields {row} h outcome = let e = lt-ltb row 3 h in (outcome .answers ∙ rw e, outcome .yields ∙ rw e)
 
 -- ---- the roots of a row's setting

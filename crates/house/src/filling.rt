@@ -12,11 +12,11 @@ ghost use lib.ListN.{length};
 ghost use Rattle.residues.specs.Moduli.{Permitted};
 ghost use Rattle.house.specs.Powers.{powers, turns};
 ghost use Rattle.house.specs.Settings.{root-for};
-ghost use Rattle.house.specs.Filling.{table-log, verdict, Outcome};
+ghost use Rattle.house.specs.Filling.{table-log, verdict, FillOutcome};
 
 // Fills a table with the powers of the setting's root for N, where the table has N/2 entries. Refusals 2, 3 and 4; they change nothing.
 pub fn fill(setting: Setting, table: &mut [u32]) -> Answer
-    ensures { λ r. ⌜ Outcome setting (now (table .entry)) r (now (table .exit)) ⌝ }
+    ensures { λ r. ⌜ FillOutcome setting (now (table .entry)) r (now (table .exit)) ⌝ }
 {
     let judged = judge(setting, table.len());
     if judged.number == 0 {

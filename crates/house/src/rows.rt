@@ -6,7 +6,7 @@ use answer::ROW;
 use residues::Residue;
 ghost use mathlib.Core.Path.{_≡_};
 ghost use Prim.Native.Nat.{_<_};
-ghost use Rattle.house.specs.Settings.{row-setting, Outcome};
+ghost use Rattle.house.specs.Settings.{row-setting, SettingOutcome};
 
 // The moduli of rows 0 to 2.
 const MODULI: [u32; 3] = [998244353, 469762049, 167772161];
@@ -65,7 +65,7 @@ pub struct Yielded {
 
 // The setting of a house row: 9 for another row, and then a setting of all zeros.
 pub fn setting_of(row: u32) -> Yielded
-    ensures { λ r. ⌜ Outcome row (r .answer) (r .setting) ⌝ }
+    ensures { λ r. ⌜ SettingOutcome row (r .answer) (r .setting) ⌝ }
 {
     if row < 3 {
         let setting = row_setting(row as usize);

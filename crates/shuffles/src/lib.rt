@@ -4,7 +4,6 @@ mod moves;
 mod stages;
 mod turns;
 
-pub use stages::stage;
 pub use turns::by_pease;
 pub use turns::by_shuffle;
 pub use turns::single;
