@@ -1,14 +1,15 @@
 -- The sizes of the stages of a schedule in place, and what the buffer holds while stage after stage is done.
-use Prim.Native.Nat.{ℕ, zero, suc, _+_, _-_, _*_, _/_, _^_, _<_, _≤_}
-use mathlib.Core.Path.{_≡_, refl}
+use Prim.Native.Nat.{ℕ, zero, suc, _+_, _-_, _*_, _%_, _^_, _<_, _≤_}
+use mathlib.Core.Path.{_≡_}
 use mathlib.Core.List.{List}
-use native.Mathlib.Nat.{two-pow-succ, mul-le-mul-left, mul-le-mul-right, sub-zero}
-use native.Mathlib.Numerals.{add-one}
+use native.Mathlib.Nat.{one-mul, mod-eq-of-lt}
 use native.Mathlib.Omega.{arith}
 use lib.ListN.{length}
-use lib.Pow.{pow-pos, pow-add}
+use lib.Pow.{pow-pos, pow-add, pow-mono}
+use Rattle.answer.specs.Cases.{lt-or-ge}
+use mathlib.Core.Logic.{⊎-elim}
 use Rattle.answer.specs.Lists.{at, tabulate, holds}
-use Rattle.fourier.specs.Sizes.{rows, two-halves}
+use Rattle.fourier.specs.Sizes.{two-halves}
 use Rattle.fourier.specs.Schedules.{Stage, Buffer, butterfly, step, run}
 use Rattle.fourier.specs.Blocks.{butterfly-within}
 use Rattle.residues.specs.Judgement.{Judged}
@@ -19,34 +20,25 @@ use Rattle.butterflies.proofs.Going.{judged-next, Going, going-next}
 
 -- ---- sizes
 
--- In front of stage s one size has been doubled s times, and the other, 2^n at first, halved as often.
-pub record Sized (n s up down : ℕ) : Type 0 where
-  pub within : s ≤ n
-  pub doubled : up ≡ 2 ^ s
-  pub halved : down ≡ 2 ^ (n - s)
+-- A judged table is for at most 2^12 data.
+pub few : {n T : ℕ} → T ≡ 2 ^ (n - 1) → T ≤ 2048 → n ≤ 12
+few {n} e l = ⊎-elim (λ h. let big : 2 ^ 12 ≤ 2 ^ (n - 1) = pow-mono {i = 12} (omega arith) in absurd (omega arith)) (λ h. h) (lt-or-ge 12 n)
 
-pub sized-none : (n : ℕ) {N : ℕ} → N ≡ 2 ^ n → Sized n 0 1 N
-sized-none n e = record { within = omega arith; doubled = refl; halved = rw sub-zero e }
-
-pub sized-next : {n s up down : ℕ} → Sized n s up down → s < n → Sized n (s + 1) (up + up) (down / 2)
-sized-next r l = rw add-one (record { within = l; doubled = rw (two-pow-succ, r .doubled); halved = let e = r .halved in omega (arith, rows l) })
+-- 1 << a.
+pub shifted : (a : ℕ) → a ≤ 11 → 1 * 2 ^ a % 2 ^ 64 ≡ 2 ^ a
+shifted a l = let small : 2 ^ a ≤ 2 ^ 11 = pow-mono l in rw one-mul (mod-eq-of-lt (omega arith))
 
 -- A stage of `stride` blocks of 2h places fits a buffer of L and a table of T entries.
 pub record Fits (L T stride h : ℕ) : Type 0 where
   pub buffer : L ≡ stride * (h + h)
+  pub some : 1 ≤ stride
   pub table : stride * h ≤ T
-  pub some : (1 ≤ stride) × (1 ≤ h)
-  pub most : (stride ≤ T) × (h ≤ T)
 
-pub fits : {n L T stride h : ℕ} (a b : ℕ) → a + suc b ≡ n → stride ≡ 2 ^ a → h ≡ 2 ^ b → L ≡ 2 ^ n → T ≡ 2 ^ (n - 1) → Fits L T stride h
-fits {n} {stride = stride} {h = h} a b e es eh el et =
-    let half : 2 ^ (n - 1) ≡ stride * h = (let z : n - 1 ≡ a + b = omega arith in rw (z, pow-add, es, eh)) in
-    let blocks : 1 ≤ stride = rw es (pow-pos a) in
-    let pairs : 1 ≤ h = rw eh (pow-pos b) in
-    let low : stride * 1 ≤ stride * h = mul-le-mul-left stride pairs in
-    let high : 1 * h ≤ stride * h = mul-le-mul-right h blocks in
+pub fits : {n L T : ℕ} (a b : ℕ) → a + suc b ≡ n → L ≡ 2 ^ n → T ≡ 2 ^ (n - 1) → Fits L T (2 ^ a) (2 ^ b)
+fits {n} a b e el et =
+    let half : 2 ^ (n - 1) ≡ 2 ^ a * 2 ^ b = (let z : n - 1 ≡ a + b = omega arith in rw (z, pow-add)) in
     let whole = two-halves n (omega arith) in
-    record { buffer = omega arith; table = omega arith; some = (blocks, pairs); most = (omega arith, omega arith) }
+    record { buffer = omega arith; some = pow-pos a; table = omega arith }
 
 -- ---- stage after stage
 

@@ -17,13 +17,9 @@ pub fn by_thong(buf: &mut [u32], table: &[u32], m: Modulus, way: Way, n: usize)
     ensures { λ _. ⌜ now (buf .exit) ≡ tabulate (length (now (buf .entry)))
         (schedule4 n ℕ (wing way (m .value) (length (now (table .entry))) (at (now (table .entry)))) (at (now (buf .entry)))) ⌝ }
 {
-    let mut blocks = buf.len();
-    let mut apart = 1;
     let mut t = 0;
     while t < n {
-        blocks = blocks / 2;
-        butterflies::stage(buf, table, m, way, blocks, apart);
-        apart += apart;
+        butterflies::stage(buf, table, m, way, 1 << (n - 1 - t), 1 << t);
         t += 1;
     }
 }

@@ -1,42 +1,47 @@
--- Schedule 4 is done stage by stage: blocks is halved and apart doubled, and the buffer holds what T1 has after t stages.
-use Prim.Native.Nat.{_-_, _+_, _/_}
-use native.Mathlib.Numerals.{add-one}
+-- Schedule 4 is done stage by stage: the buffer holds what T1 has after t stages.
+use Prim.Native.Nat.{suc, _-_, _≤_}
+use mathlib.Core.Path.{_≡_, refl, _∙_}
 use native.Mathlib.Omega.{arith}
-use lib.ListN.{length}
 use Rattle.fourier.specs.Schedules.{thong}
 use Rattle.fourier.specs.Blocks.{ran-all}
 use Rattle.butterflies.proofs.Going.{Going, going-none}
-use Rattle.runs.proofs.Stages.{Sized, sized-none, sized-next, Fits, fits, butterfly-next}
+use Rattle.runs.proofs.Stages.{few, shifted, fits, butterfly-next}
 use borrow.Author.Needs.{needs}
 use Rattle.runs.proofs.thong.by_thong.Statement.{statement}
 use Rattle.runs.proofs.thong.by_thong.Tie as tie
+use Rattle.runs.proofs.thong.by_thong.Reads as reads
+use Rattle.runs.proofs.thong.by_thong.Lts as lts
+use Rattle.butterflies.proofs.stage.Reads as stage-reads
 
 abbrev Inv-loop : tie.InvT-loop
-Inv-loop buf₀ table m way n blocks₀ apart₀ t₀ buf blocks apart t = Sized n t apart blocks × Going way (m .value) table buf₀ (thong n) t buf
+Inv-loop buf₀ table m way n t₀ buf t = (t ≤ n) × Going way (m .value) table buf₀ (thong n) t buf
 
 abbrev μ-loop : tie.MeasureT-loop
-μ-loop buf₀ table m way n blocks₀ apart₀ t₀ buf blocks apart t = n - t
-
--- Stage t fits.
-stage-fits : (c : tie.In-loop Inv-loop μ-loop) → (let s = c .before .before .before .before .args in let l = c .before .loop in Fits (length (s .buf .now)) (length (s .table .now)) (l .blocks / 2) (l .apart))
-stage-fits c =
-    let s = c .before .before .before .before in
-    let l = c .before .loop in
-    let next = sized-next (l .inv .0) (c .loop-test .taken) in
-    fits (s .args .n - (l .t + 1)) (l .t) (omega arith) (next .halved) (l .inv .0 .doubled) (s .pre .1 .1) (s .pre .1 .2)
+μ-loop buf₀ table m way n t₀ buf t = n - t
 
 loop-holds : tie.Need-loop-holds Inv-loop μ-loop
-loop-holds c = let s = c .before .before in (sized-none (s .args .n) (s .pre .1 .1), going-none (s .pre .0))
+loop-holds c = let s = c .before .before in (omega arith, going-none (s .pre .0))
+
+sub-stage : tie.Need-sub-stage Inv-loop μ-loop
+sub-stage c = search needs
+
+sub-stage-2 : tie.Need-sub-stage-2 Inv-loop μ-loop
+sub-stage-2 c = search needs
+
+shl-stage : tie.Need-shl-stage Inv-loop μ-loop
+shl-stage c = let s = c .before .before .before .before .before in omega (arith, few (s .pre .1 .2) (s .pre .0 .small))
+
+shl-stage-2 : tie.Need-shl-stage-2 Inv-loop μ-loop
+shl-stage-2 c = let s = c .before .before .before .before .before in omega (arith, few (s .pre .1 .2) (s .pre .0 .small), c .before .loop-test .taken)
 
 stage-requires : tie.Need-stage-requires Inv-loop μ-loop
 stage-requires c κs =
-    let g = c .before .before .loop .inv .1 in
-    let k = stage-fits (c .before) in
-    let long = g .ran .held .long in
-    (g .judged, (omega arith, (omega arith, omega arith)))
-
-add-apart : tie.Need-add-apart Inv-loop μ-loop
-add-apart c = let k = stage-fits (c .before .before .before .before) in record { fits = omega arith }
+    let s = c .before .before .before .before .before in
+    let l = c .before .before .loop in
+    let rest = s .args .n - 1 - l .t in
+    let most = few (s .pre .1 .2) (s .pre .0 .small) in
+    let k = fits rest (l .t) (omega arith) (l .inv .1 .ran .held .long ∙ s .pre .1 .1) (s .pre .1 .2) in
+    rw (shifted rest (omega arith), shifted (l .t) (omega arith)) (l .inv .1 .judged, (k .buffer, (k .some, k .table)))
 
 add-t : tie.Need-add-t Inv-loop μ-loop
 add-t c = search needs
@@ -47,9 +52,12 @@ loop-less c = search needs
 loop-again : tie.Need-loop-again Inv-loop μ-loop
 loop-again c =
     let i = c .before .before .before .before in
+    let s = i .before .before .before .before in
     let l = i .before .loop in
-    let next = sized-next (l .inv .0) (i .loop-test .taken) in
-    (next, butterfly-next (l .inv .1) (stage-fits i) (rw (next .halved, l .inv .0 .doubled, add-one)) (c .before .before .stage .ensures))
+    let rest : s .args .n - 1 - l .t ≡ s .args .n - suc (l .t) = omega arith in
+    let most = few (s .pre .1 .2) (s .pre .0 .small) in
+    let k = fits (s .args .n - suc (l .t)) (l .t) (omega arith) (s .pre .1 .1) (s .pre .1 .2) in
+    (omega arith, butterfly-next (l .inv .1) k refl (rw (shifted (s .args .n - 1 - l .t) (omega arith), shifted (l .t) (omega arith), rest) at (c .before .before .stage .ensures)))
 
 same-length : tie.Need-same-length Inv-loop μ-loop
 same-length c = search needs
@@ -64,8 +72,11 @@ by-thong-spec =
     Inv-loop
     μ-loop
     loop-holds
+    sub-stage
+    sub-stage-2
+    shl-stage
+    shl-stage-2
     stage-requires
-    add-apart
     add-t
     loop-less
     loop-again
