@@ -59,9 +59,3 @@ module _ {A : Type 0} {d : A} {l : List A} {h : ℕ} {new old : ℕ → A} where
       long = r .long;
       here = each (λ x p. x ≡ new p) (λ k a. let b = r .past k a (omega arith) in (b .low, b .high));
     }
-
-    -- What is true of new and of old is true of every entry.
-    pub paired-every : (P : A → Type 0) → ((p : ℕ) → P (new p)) → ((p : ℕ) → P (old p)) → (p : ℕ) → p < h + h → P (getD l p d)
-    paired-every P a b = each (λ x p. P x) (λ k g. ⊎-elim
-        (λ q. let w = r .past k g q in (rw (w .low) (a k), rw (w .high) (a (k + h))))
-        (λ q. let w = r .left k g q in (rw (w .low) (b k), rw (w .high) (b (k + h)))) (lt-or-ge k i))

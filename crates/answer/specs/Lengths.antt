@@ -1,5 +1,5 @@
 -- The permitted lengths.
-use Prim.Native.Nat.{ℕ, zero, suc, _^_, _≤_, _<_}
+use Prim.Native.Nat.{ℕ, zero, suc, _+_, _^_, _≤_, _<_}
 use mathlib.Core.Path.{_≡_, refl, sym}
 use mathlib.Core.Bool.{Bool, true, false, cond}
 use mathlib.Core.Logic.{⊎-elim}
@@ -17,6 +17,10 @@ log-up-to (suc k) N = cond (eqb N (2 ^ suc k)) (suc k) (log-up-to k N)
 -- The n of a permitted length, "N = 2^n, from 2 to 4,096", or 0 where N is not permitted.
 unfoldable pub log-of : ℕ → ℕ
 log-of N = log-up-to 12 N
+
+-- The n of the N = 2^n that a table of h = N/2 entries is for, or 0 where no permitted N has it.
+abbrev pub table-log : ℕ → ℕ
+table-log h = log-of (h + h)
 
 -- Each candidate from 1 to k is found.
 pub found : (k n : ℕ) → 1 ≤ n → n ≤ k → log-up-to k (2 ^ n) ≡ n

@@ -5,9 +5,9 @@ use mathlib.Core.Logic.{⊎-elim}
 use mathlib.Core.List.{List, [], _∷_}
 use native.Mathlib.Nat.{not-suc-le-zero, le-of-suc-le-suc}
 use native.Mathlib.Omega.{arith}
-use lib.ListN.{length, getD, set, length-set, List·getD-eq-default}
-use lib.Seq.{ext-getD, getD-set-same, getD-set-other}
-use Rattle.answer.specs.Cases.{lt-or-ge, eq-or-ne}
+use lib.ListN.{length, getD, List·getD-eq-default}
+use lib.Seq.{ext-getD}
+use Rattle.answer.specs.Cases.{lt-or-ge}
 
 -- f 0, .., f (n - 1).
 unfoldable pub tabulate : {A : Type 0} → ℕ → (ℕ → A) → List A
@@ -47,26 +47,14 @@ module _ {A : Type 0} {d : A} where
   pub holds : {l : List A} {n : ℕ} {f : ℕ → A} → l ≡ tabulate n f → Holds d l n f
   holds {n = n} {f = f} e = rw e (holds-tabulate n f)
 
-  -- A list holds its own entries, and what another function says that is the same.
+  -- A list holds its own entries.
   pub holds-self : (l : List A) → Holds d l (length l) (λ p. getD l p d)
   holds-self l = record { long = refl; here = λ p h. refl }
-
-  pub holds-as : {l : List A} {n : ℕ} {f g : ℕ → A} → Holds d l n f → ((p : ℕ) → p < n → f p ≡ g p) → Holds d l n g
-  holds-as r e = record { long = r .long; here = λ p h. r .here p h ∙ e p h }
 
   -- What is true of the function's values and of d is true of every entry.
   pub holds-every : (P : A → Type 0) {l : List A} {n : ℕ} {f : ℕ → A} → Holds d l n f → P d → ((p : ℕ) → p < n → P (f p)) → (p : ℕ) → P (getD l p d)
   holds-every P {l} {n} r z each p =
       ⊎-elim (λ h. rw (r .here p h) (each p h)) (λ h. let e = r .long in rw (List·getD-eq-default l d {n = p} (omega arith)) z) (lt-or-ge p n)
-
-  -- One entry is set: g is x at place i, and elsewhere what the list held.
-  pub holds-set : {l : List A} {n : ℕ} {f g : ℕ → A} {i : ℕ} {x : A} → Holds d l n f → i < n → x ≡ g i → ((p : ℕ) → p < n → (p ≡ i → ⊥) → f p ≡ g p) → Holds d (set l i x) n g
-  holds-set {l} {n} {f} {g} {i} {x} r h e other =
-      let w = r .long in
-      record {
-        long = length-set l i x ∙ r .long;
-        here = λ p k. ⊎-elim (λ q. rw q (getD-set-same l i x d (omega arith) ∙ e)) (λ q. getD-set-other l i p x d q ∙ r .here p k ∙ other p k q) (eq-or-ne p i);
-      }
 
 -- Functions with the same values make the same list.
 pub tabulate-as : {A : Type 0} (n : ℕ) (f g : ℕ → A) → ((p : ℕ) → p < n → f p ≡ g p) → tabulate n f ≡ tabulate n g

@@ -1,6 +1,6 @@
 // What every public call needs: the answer it gives, the mark of a search, and the permitted lengths.
 ghost use mathlib.Core.Path.{_≡_};
-ghost use Rattle.answer.specs.Lengths.{log-of};
+ghost use Rattle.answer.specs.Lengths.{log-of, table-log};
 
 // What a call answers: document 01's number and place.
 pub struct Answer {
@@ -78,4 +78,14 @@ pub fn log_of(len: usize) -> usize
         n -= 1;
     }
     0
+}
+
+// The n of the length 2^n that a table of `len` entries is for, or 0 where there is none.
+pub fn table_log(len: usize) -> usize
+    ensures { λ r. ⌜ r ≡ table-log len ⌝ }
+{
+    if 2048 < len {
+        return 0;
+    }
+    log_of(len + len)
 }

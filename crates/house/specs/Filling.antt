@@ -7,7 +7,7 @@ use lib.Dec.{ltb}
 use lib.ListN.{length}
 use borrow.Author.Tests.{ltb-true, lt-ltb}
 use Rattle.answer.specs.Choice.{refuse, refuse-at, done, unless, if-done, unless-done}
-use Rattle.answer.specs.Lengths.{log-of, power-permitted, permitted-log, permitted-range}
+use Rattle.answer.specs.Lengths.{table-log, power-permitted, permitted-log, permitted-range}
 use Rattle.answer.specs.Lists.{at, length-tabulate}
 use Rattle.answer.specs.declared.Answer.{Answer}
 use Rattle.fourier.specs.Sizes.{two-halves}
@@ -19,10 +19,6 @@ use Rattle.house.specs.Rows.{row-permitted, root-below, root-turns}
 use Rattle.house.specs.Settings.{root-for, row-setting, root-for-row}
 
 -- ---- definitions
-
--- The n of the N = 2^n that a table of h = N/2 entries is for, or 0 where no permitted N has it.
-abbrev pub table-log : ℕ → ℕ
-table-log h = log-of (h + h)
 
 -- The setting's root for that N.
 abbrev pub root-of-table : Setting → ℕ → ℕ

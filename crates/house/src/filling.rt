@@ -7,12 +7,12 @@ use answer::TABLE_LENGTH;
 use residues::Modulus;
 use residues::Residue;
 ghost use mathlib.Core.Path.{_≡_};
-ghost use Prim.Native.Nat.{_+_, _-_, _%_, _^_, _≤_, _<_};
+ghost use Prim.Native.Nat.{_-_, _%_, _^_, _≤_, _<_};
 ghost use lib.ListN.{length};
 ghost use Rattle.residues.specs.Moduli.{Permitted};
 ghost use Rattle.house.specs.Powers.{powers, turns};
 ghost use Rattle.house.specs.Settings.{root-for};
-ghost use Rattle.house.specs.Filling.{table-log, verdict, FillOutcome};
+ghost use Rattle.house.specs.Filling.{verdict, FillOutcome};
 
 // Fills a table with the powers of the setting's root for N, where the table has N/2 entries. Refusals 2, 3 and 4; they change nothing.
 pub fn fill(setting: Setting, table: &mut [u32]) -> Answer
@@ -20,7 +20,7 @@ pub fn fill(setting: Setting, table: &mut [u32]) -> Answer
 {
     let judged = judge(setting, table.len());
     if judged.number == 0 {
-        let n = table_log(table.len());
+        let n = answer::table_log(table.len());
         let x = root_for(setting, n);
         write_powers(
             table,
@@ -38,7 +38,7 @@ fn judge(setting: Setting, len: usize) -> Answer
     ensures { λ r. ⌜ r ≡ verdict setting len ⌝ }
 {
     let permitted = residues::permitted(setting.modulus);
-    let n = table_log(len);
+    let n = answer::table_log(len);
     if !permitted {
         return MODULUS;
     }
@@ -59,16 +59,6 @@ fn judge(setting: Setting, len: usize) -> Answer
         number: 4,
         place: len,
     }
-}
-
-// The n of the length 2^n that a table of `len` entries is for, or 0 where there is none.
-fn table_log(len: usize) -> usize
-    ensures { λ r. ⌜ r ≡ table-log len ⌝ }
-{
-    if 2048 < len {
-        return 0;
-    }
-    answer::log_of(len + len)
 }
 
 // The setting's root for 2^n.

@@ -1,5 +1,5 @@
 -- What a caller can cite of the outcomes of the calls over residues.
-use Prim.Native.Nat.{ℕ, zero, suc, _+_, _-_, _/_, _%_, _^_, _<_, _≤_}
+use Prim.Native.Nat.{ℕ, zero, suc, _-_, _/_, _%_, _^_, _<_, _≤_}
 use mathlib.Core.Path.{_≡_, refl, sym, ap, _∙_}
 use mathlib.Core.Bool.{true, false, cond}
 use mathlib.Core.Logic.{⊎-elim}
@@ -13,7 +13,7 @@ use lib.Dec.{ltb, eqb}
 use Rattle.answer.specs.declared.Answer.{Answer}
 use Rattle.answer.specs.Choice.{refuse, refuse-at, done, unless-done, judged-done, done-left, unless-past, judged-past, judged-here, judged-number}
 use Rattle.answer.specs.Search.{FailsFirst, first-passed, at-failed, nowhere-passed}
-use Rattle.answer.specs.Lengths.{log-of, permitted-log}
+use Rattle.answer.specs.Lengths.{log-of, table-log, permitted-log}
 use Rattle.answer.specs.Lists.{at, Holds, getD-tabulate, holds}
 use Rattle.fourier.specs.Reverse.{rev, rev-lt, rev-rev}
 use Rattle.fourier.specs.Schedules.{Buffer, Stage, columns, shuffle}
@@ -33,11 +33,11 @@ pub accept-accepted : {m : ℕ} {table : List ℕ} {answer : Answer} → AcceptO
 unfolding accept-verdict
 accept-accepted {m} {table} outcome passed =
     let modulus = unless-done (permits m) (refuse 2) _ (omega arith) (rw (outcome .answers) at passed) in
-    let size = unless-done (permitted-length (length table + length table)) (refuse 3) _ (omega arith) (modulus .1) in
+    let size = unless-done (ltb 0 (table-log (length table))) (refuse 3) _ (omega arith) (modulus .1) in
     nowhere-passed (rule m (length table) (at table)) (suc (length table)) (judged-done 4 (bad-entry m table) done (omega arith) (size .1) .0)
 
 -- With a permitted modulus and length an accepted table is answered 0.
-pub accepted-accept : (m : ℕ) (table : List ℕ) → Permitted m → permitted-length (length table + length table) ≡ true → Accepted m (length table) (at table) → accept-verdict m table ≡ done
+pub accepted-accept : (m : ℕ) (table : List ℕ) → Permitted m → ltb 0 (table-log (length table)) ≡ true → Accepted m (length table) (at table) → accept-verdict m table ≡ done
 unfolding accept-verdict
 accepted-accept m table permitted long accepted = rw (permitted-permits m permitted, long, first-passed accepted)
 
@@ -287,4 +287,4 @@ unfolding accept-verdict
 accept-entry {m} {p} {table} outcome =
     at-failed (rule m (length table) (at table)) (suc (length table)) p
     (judged-here 4 (bad-entry m table) done p (λ z. omega arith)
-    (unless-past (permitted-length (length table + length table)) (refuse 3) _ (λ z. omega arith) (unless-past (permits m) (refuse 2) _ (λ z. omega arith) (sym (outcome .answers)))))
+    (unless-past (ltb 0 (table-log (length table))) (refuse 3) _ (λ z. omega arith) (unless-past (permits m) (refuse 2) _ (λ z. omega arith) (sym (outcome .answers)))))

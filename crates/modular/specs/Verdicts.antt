@@ -1,12 +1,12 @@
 -- What the calls over residues answer: the first of document 01's conditions that holds, in its order.
-use Prim.Native.Nat.{ℕ, _+_, _/_}
+use Prim.Native.Nat.{ℕ, _/_}
 use mathlib.Core.Bool.{Bool, true, cond, _&&_}
 use mathlib.Core.List.{List}
 use lib.ListN.{length}
 use lib.Dec.{ltb, leb, eqb}
 use Rattle.answer.specs.declared.Answer.{Answer}
 use Rattle.answer.specs.Choice.{refuse, done, unless, judged-at}
-use Rattle.answer.specs.Lengths.{log-of}
+use Rattle.answer.specs.Lengths.{log-of, table-log}
 use Rattle.residues.specs.Moduli.{permits}
 use Rattle.residues.specs.Judgement.{bad-entry, bad-sample}
 
@@ -25,7 +25,7 @@ lent-verdict m table buf =
 unfoldable pub accept-verdict : ℕ → List ℕ → Answer
 accept-verdict m table =
     unless (permits m) (refuse 2)
-    (unless (permitted-length (length table + length table)) (refuse 3)
+    (unless (ltb 0 (table-log (length table))) (refuse 3)
     (judged-at 4 (bad-entry m table) done))
 
 -- The schedules that work through scratch: "scratch counts only for schedules 2 and 5".

@@ -11,7 +11,7 @@ pub fn accept(m: u32, table: &[u32]) -> Answer
     if !residues::permitted(m) {
         return answer::MODULUS;
     }
-    if answer::log_of(table.len() + table.len()) == 0 {
+    if answer::table_log(table.len()) == 0 {
         return answer::TABLE_LENGTH;
     }
     let entry = residues::judge_table(table, Modulus { value: m });

@@ -2,7 +2,7 @@
 use Prim.Native.Nat.{ℕ, zero, suc, _+_, _-_, _*_, _%_, _^_, _<_, _≤_}
 use mathlib.Core.Path.{_≡_, refl, sym, ap, _∙_}
 use mathlib.Core.Bool.{true}
-use mathlib.Core.List.{List, [], _∷_}
+use mathlib.Core.List.{List, []}
 use native.Mathlib.Nat.{two-pow-succ, mod-eq-of-lt, one-mul}
 use native.Mathlib.Omega.{arith}
 use lib.Pow.{pow-add, pow-mono}
@@ -54,9 +54,6 @@ module _ (m : ℕ) (least : 3 ≤ m) where
       by zero l = rw (e, lt-ltb 1 m (omega arith))
       by (suc zero) l = rw (e, one-mul) (eq-eqb ((m - 1) % m) (m - 1) (mod-eq-of-lt (omega arith)))
       by (suc (suc i)) l = absurd (omega arith)
-
-  pub lone-one : Accepted m 1 (at (1 ∷ []))
-  lone-one = lone-accepted (at (1 ∷ [])) refl
 
   -- So the first entry of any accepted table, alone, is accepted for N = 2.
   pub first-entry : (h : ℕ) (t : ℕ → ℕ) → 1 ≤ h → Accepted m h t → t 0 ≡ 1

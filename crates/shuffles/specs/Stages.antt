@@ -1,10 +1,9 @@
 -- The stages of schedules 2 and 5 by one name, which differ in their exponents alone, and a buffer of zeros.
 use Prim.Native.Nat.{ℕ, suc, _-_, _*_, _%_, _^_}
-use mathlib.Core.Path.{_≡_, refl}
 use mathlib.Core.List.{List}
 use Rattle.answer.specs.Lists.{tabulate}
 use Rattle.fourier.specs.Reverse.{rev}
-use Rattle.fourier.specs.Schedules.{Stage, shuffled, shuffle, pease}
+use Rattle.fourier.specs.Schedules.{Stage, shuffled}
 use Rattle.butterflies.specs.declared.Way.{Way}
 use Rattle.butterflies.specs.declared.Way.the-variants.{Frequency, Time, Back}
 
@@ -21,10 +20,3 @@ stages way n s = shuffled (2 ^ (n - 1)) (exponents way n s)
 -- Scratch "is all zeros after success".
 abbrev pub zeros : ℕ → List ℕ
 zeros N = tabulate N (λ p. 0)
-
--- The stages are those of schedules 2 and 5.
-pub stages-shuffle : (n s : ℕ) → stages Frequency n s ≡ shuffle n s
-stages-shuffle n s = refl
-
-pub stages-pease : (n s : ℕ) → stages Time n s ≡ pease n s
-stages-pease n s = refl

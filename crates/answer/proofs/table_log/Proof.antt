@@ -2,11 +2,11 @@
 use Prim.Native.Nat.{_+_}
 use mathlib.Core.Logic.{⊎-elim}
 use native.Mathlib.Omega.{arith}
 use Rattle.answer.specs.Lengths.{log-of, permitted-range}
 use Rattle.answer.specs.Cases.{lt-or-ge}
 use borrow.Author.Needs.{needs}
-use Rattle.house.proofs.filling.table_log.Statement.{statement}
-use Rattle.house.proofs.filling.table_log.Tie as tie
+use Rattle.answer.proofs.table_log.Statement.{statement}
+use Rattle.answer.proofs.table_log.Tie as tie
 
 returns : tie.Need-returns
 returns c =

@@ -6,9 +6,9 @@ use native.Mathlib.Omega.{arith}
 use borrow.Author.Needs.{needs}
 use borrow.Author.Tests.{not-true, not-false, lt-ltb}
 use Rattle.answer.specs.Choice.{refuse-at, done, unless}
-use Rattle.answer.specs.Lengths.{permitted-log}
+use Rattle.answer.specs.Lengths.{table-log, permitted-log}
 use Rattle.residues.specs.Moduli.{permits, permits-permitted}
-use Rattle.house.specs.Filling.{table-log, verdict, table-length}
+use Rattle.house.specs.Filling.{verdict, table-length}
 use Rattle.house.proofs.filling.judge.Statement.{statement}
 use Rattle.house.proofs.filling.judge.Tie as tie
 

@@ -4,14 +4,16 @@ use mathlib.Core.Bool.{true}
 use native.Mathlib.Omega.{arith}
 use lib.ListN.{length}
 use Rattle.residues.specs.Moduli.{permits, permits-permitted}
-use Rattle.modular.specs.Verdicts.{permitted-length, accept-verdict}
+use Rattle.modular.specs.Verdicts.{accept-verdict}
+use Rattle.answer.specs.Lengths.{table-log}
+use lib.Dec.{ltb}
 use Rattle.modular.proofs.Tests.{passed, failed, long, long-half}
 use borrow.Author.Needs.{needs}
 use Rattle.modular.proofs.accepting.accept.Statement.{statement}
 use Rattle.modular.proofs.accepting.accept.Tie as tie
 use Rattle.modular.proofs.accepting.accept.Reads as reads
 use Rattle.modular.proofs.accepting.accept.Lts as lts
-use Rattle.answer.proofs.log_of.Reads as log-of-reads
+use Rattle.answer.proofs.table_log.Reads as table-log-reads
 use Rattle.residues.proofs.judge_table.Reads as judge-table-reads
 use Rattle.residues.proofs.permitted.Reads as permitted-reads
 
@@ -19,8 +21,8 @@ use Rattle.residues.proofs.permitted.Reads as permitted-reads
 modulus : (c : tie.Else1) → permits (c .before .before .before .args .m) ≡ true
 modulus c = passed (c .before .permitted .ensures) (c .if1 .left)
 
-size : (c : tie.Else2) → (let t = c .before .before .before .before .before .args .table .now in permitted-length (length t + length t) ≡ true)
-size c = long _ (c .before .log-of .ensures) (c .if2 .left)
+size : (c : tie.Else2) → (let t = c .before .before .before .before .before .args .table .now in ltb 0 (table-log (length t)) ≡ true)
+size c = long _ (c .before .table-log .ensures) (c .if2 .left)
 
 permitted-requires : tie.Need-permitted-requires
 permitted-requires c κs = search needs
@@ -29,15 +31,12 @@ returns : tie.Need-returns
 unfolding accept-verdict
 returns c = record { answers = rw (failed (c .before .permitted .ensures) (c .if1 .taken)) }
 
-add-log-of : tie.Need-add-log-of
-add-log-of c = search needs
-
-log-of-requires : tie.Need-log-of-requires
-log-of-requires c κs = search needs
+table-log-requires : tie.Need-table-log-requires
+table-log-requires c κs = search needs
 
 returns-2 : tie.Need-returns-2
 unfolding accept-verdict
-returns-2 c = record { answers = rw (modulus (c .before .before), ← c .before .log-of .ensures, c .if2 .taken) }
+returns-2 c = record { answers = rw (modulus (c .before .before), ← c .before .table-log .ensures, c .if2 .taken) }
 
 judge-table-requires : tie.Need-judge-table-requires
 judge-table-requires c κs =
@@ -65,8 +64,7 @@ accept-spec =
     (tie.spec
     permitted-requires
     returns
-    add-log-of
-    log-of-requires
+    table-log-requires
     returns-2
     judge-table-requires
     enum-known-entry
