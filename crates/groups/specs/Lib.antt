@@ -1,0 +1,4 @@
+-- Numbers in groups of seven bits.
+pub mod Groups
+pub mod Outcomes
+pub mod Theorems
