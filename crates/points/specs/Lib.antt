@@ -1,0 +1,2 @@
+-- Complex numbers in fixed point.
+pub mod Interleaved
