@@ -1,12 +1,20 @@
 -- Buffers of points: "numbers are pairs (real, imaginary), interleaved; a buffer of N points has 2N numbers".
-use Prim.Native.Nat.{ℕ, suc, _+_, _/_, _%_}
+use Prim.Native.Nat.{ℕ, suc, _+_, _/_, _%_, _<_}
+use mathlib.Core.Path.{_≡_, sym, ap, _∙_}
 use mathlib.Core.Bool.{cond}
 use mathlib.Core.List.{List}
+use mathlib.Core.Logic.{⊎-elim}
+use native.Mathlib.Omega.{arith}
 use lib.Dec.{eqb}
 use lib.IntN.{ℤ, pos}
-use lib.ListN.{getD}
-use Rattle.answer.specs.Lists.{tabulate}
+use lib.ListN.{length, getD, set, length-set}
+use lib.Seq.{getD-set-same, getD-set-other}
+use borrow.Author.Tests.{eq-eqb, ne-eqb}
+use Rattle.answer.specs.Cases.{eq-or-ne}
+use Rattle.answer.specs.Lists.{tabulate, Holds, length-tabulate, getD-tabulate, listed, holds-tabulate}
 use Rattle.points.specs.declared.Point.{Point}
+
+-- ---- definitions
 
 -- The number at a place of a buffer, and 0 behind its end.
 abbrev pub number : List ℤ → ℕ → ℤ
@@ -23,3 +31,78 @@ part f q = cond (eqb (q % 2) 0) (f (q / 2) .re) (f (q / 2) .im)
 -- The buffer of n points.
 abbrev pub interleaved : ℕ → (ℕ → Point) → List ℤ
 interleaved n f = tabulate (n + n) (part f)
+
+-- The buffer with z as point p.
+abbrev pub put : List ℤ → ℕ → Point → List ℤ
+put l p z = set (set l (p + p) (z .re)) (suc (p + p)) (z .im)
+
+-- The points of a buffer.
+abbrev pub points : List ℤ → List Point
+points l = tabulate (length l / 2) (point l)
+
+-- ---- a buffer by its points
+
+module _ (f : ℕ → Point) (p : ℕ) where
+  part-re : part f (p + p) ≡ f p .re
+  unfolding part
+  part-re = let e : (p + p) / 2 ≡ p = omega arith in rw (eq-eqb ((p + p) % 2) 0 (omega arith), e)
+
+  part-im : part f (suc (p + p)) ≡ f p .im
+  unfolding part
+  part-im = let e : suc (p + p) / 2 ≡ p = omega arith in rw (ne-eqb (suc (p + p) % 2) 0 (λ g. omega arith), e)
+
+-- What is true of the places of both parts of every point is true of every place.
+by-parts : (P : ℕ → Type 0) → ((p : ℕ) → P (p + p)) → ((p : ℕ) → P (suc (p + p))) → (q : ℕ) → P q
+by-parts P re im q =
+    ⊎-elim (λ g. let e : q / 2 + q / 2 ≡ q = omega arith in rw e at (re (q / 2)))
+    (λ g. let e : suc (q / 2 + q / 2) ≡ q = omega arith in rw e at (im (q / 2))) (eq-or-ne (q % 2) 0)
+
+module _ (l : List ℤ) (n : ℕ) (f : ℕ → Point) where
+  -- The two ways to say which points a buffer holds.
+  pub point-held : Holds (pos 0) l (n + n) (part f) → (p : ℕ) → p < n → point l p ≡ f p
+  point-held r p h = λ i. record { re = (r .here (p + p) (omega arith) ∙ part-re f p) i; im = (r .here (suc (p + p)) (omega arith) ∙ part-im f p) i }
+
+  pub held-points : length l ≡ n + n → ((p : ℕ) → p < n → point l p ≡ f p) → Holds (pos 0) l (n + n) (part f)
+  held-points long here = record {
+    long = long;
+    here = by-parts (λ q. q < n + n → number l q ≡ part f q)
+        (λ p h. ap (λ (z : Point). z .re) (here p (omega arith)) ∙ sym (part-re f p))
+        (λ p h. ap (λ (z : Point). z .im) (here p (omega arith)) ∙ sym (part-im f p));
+  }
+
+  -- A buffer whose points are f.
+  pub interleaved-by : length l ≡ n + n → ((p : ℕ) → p < n → point l p ≡ f p) → l ≡ interleaved n f
+  interleaved-by long here = listed (held-points long here)
+
+pub point-interleaved : (n : ℕ) (f : ℕ → Point) (p : ℕ) → p < n → point (interleaved n f) p ≡ f p
+point-interleaved n f = point-held (interleaved n f) n f (holds-tabulate (n + n) (part f))
+
+-- ---- a point put into a buffer
+
+module _ (l : List ℤ) (p : ℕ) (z : Point) where
+  pub length-put : length (put l p z) ≡ length l
+  length-put = simp length-set
+
+  pub point-put-same : suc (p + p) < length l → point (put l p z) p ≡ z
+  point-put-same h = λ i. record { re = re i; im = im i }
+    where
+      re : number (put l p z) (p + p) ≡ z .re
+      re = getD-set-other (set l (p + p) (z .re)) (suc (p + p)) (p + p) (z .im) (pos 0) (λ e. omega arith) ∙ getD-set-same l (p + p) (z .re) (pos 0) (omega arith)
+
+      im : number (put l p z) (suc (p + p)) ≡ z .im
+      im = getD-set-same (set l (p + p) (z .re)) (suc (p + p)) (z .im) (pos 0) (rw length-set h)
+
+  pub point-put-other : (q : ℕ) → (q ≡ p → ⊥) → point (put l p z) q ≡ point l q
+  point-put-other q n = λ i. record { re = same (q + q) (λ e. n (omega arith)) (λ e. omega arith) i; im = same (suc (q + q)) (λ e. omega arith) (λ e. n (omega arith)) i }
+    where
+      same : (k : ℕ) → (k ≡ p + p → ⊥) → (k ≡ suc (p + p) → ⊥) → number (put l p z) k ≡ number l k
+      same k a b = getD-set-other (set l (p + p) (z .re)) (suc (p + p)) k (z .im) (pos 0) b ∙ getD-set-other l (p + p) k (z .re) (pos 0) a
+
+  -- Laws of lists of points serve buffers: to put a point is to set it.
+  pub points-put : suc (p + p) < length l → points (put l p z) ≡ set (points l) p z
+  points-put h = rw length-put (sym (listed {d = z} (record { long = simp (length-set, length-tabulate); here = here })))
+    where
+      here : (q : ℕ) → q < length l / 2 → getD (set (points l) p z) q z ≡ point (put l p z) q
+      here q k =
+          ⊎-elim (λ e. rw e (getD-set-same (points l) p z z (simp length-tabulate (omega arith)) ∙ sym (point-put-same h)))
+          (λ e. getD-set-other (points l) p q z z e ∙ getD-tabulate z (length l / 2) (point l) q k ∙ sym (point-put-other q e)) (eq-or-ne q p)
