@@ -1,13 +1,10 @@
 -- How far the parts grow from stage to stage, for any rounding that errs by at most one half.
 use Prim.Native.Nat.{ℕ, zero, suc, _+_, _-_, _*_, _/_, _^_, _<_, _≤_}
-use mathlib.Core.Path.{_≡_, refl}
-use mathlib.Core.List.{[], _∷_}
 use native.Mathlib.Nat.{add-zero, add-suc, le-refl, le-trans, le-of-suc-le-suc, add-sub-of-le, lt-of-mul-lt-mul-left}
 use native.Mathlib.Omega.{arith}
 use lib.Dec.{lit<, lit≤}
-use lib.IntN.{ℤ, pos, natAbs, _-ℤ_, _*ℤ_}
-use Rattle.algebra.specs.Integers.{integers, natAbs-add, natAbs-mul}
-use Rattle.algebra.specs.Solver.{v, _:+_, _:-_, _:*_, ring}
+use lib.IntN.{ℤ, pos, natAbs, _-ℤ_, _*ℤ_, -ℤ-+ℤ-cancel}
+use Rattle.algebra.specs.Integers.{natAbs-add, natAbs-mul}
 use Rattle.fourier.specs.Array.{Exponents}
 use Rattle.fourier.specs.Schedules.{Schedule, Buffer}
 use Rattle.fourier.specs.Leaves.{Leaves, Keeps, related}
@@ -35,16 +32,14 @@ grow-most s h = le-trans (rw (add-sub-of-le h) at (more (12 - s))) (lit≤ tt)
 
 module _ {rounding : Rounding} (half : Half rounding) where
   -- A rounded part is within half a unit of the quotient.
-  pub round-size : (D m : ℕ) (z : ℤ) → 0 < D → natAbs z ≤ m → 2 * (D * natAbs (rounding D z)) ≤ 2 * m + D
-  round-size D m z pos-D h =
-      rw (← natAbs-mul (pos D) (rounding D z), ring integers (pos D ∷ rounding D z ∷ z ∷ []) (v 0 :* v 1) (v 0 :* v 1 :- v 2 :+ v 2) refl)
-      (omega (arith, natAbs-add (pos D *ℤ rounding D z -ℤ z) z, half .errs D z pos-D))
+  pub round-size : (D m k : ℕ) (z : ℤ) → 0 < D → 2 * m + D < 2 * (D * suc k) → natAbs z ≤ m → natAbs (rounding D z) ≤ k
+  round-size D m k z pos-D room h =
+      let size : natAbs (pos D *ℤ rounding D z) ≤ natAbs (pos D *ℤ rounding D z -ℤ z) + natAbs z =
+      rw -ℤ-+ℤ-cancel at (natAbs-add (pos D *ℤ rounding D z -ℤ z) z) in
+      le-of-suc-le-suc (lt-of-mul-lt-mul-left D (omega (arith, natAbs-mul (pos D) (rounding D z), half .errs D z pos-D)))
 
-  pub round-sized : (D m k : ℕ) (w : Point) → 0 < D → 2 * m + D < 2 * (D * suc k) → Sized m w → Sized k (each (rounding D) w)
-  round-sized D m k w pos-D room h = record { real = part (w .re) (h .real); imaginary = part (w .im) (h .imaginary) }
-    where
-      part : (z : ℤ) → natAbs z ≤ m → natAbs (rounding D z) ≤ k
-      part z l = le-of-suc-le-suc (lt-of-mul-lt-mul-left D (omega (arith, round-size D m z pos-D l)))
+  round-sized : (D m k : ℕ) (w : Point) → 0 < D → 2 * m + D < 2 * (D * suc k) → Sized m w → Sized k (each (rounding D) w)
+  round-sized D m k w pos-D room h = record { real = round-size D m k (w .re) pos-D room (h .real); imaginary = round-size D m k (w .im) pos-D room (h .imaginary) }
 
   -- The rounded step keeps the sizes.
   pub sized-kept : (n : ℕ) {t : ℕ → Point} → Turns t (2 ^ (n - 1)) → Keeps n (λ s z _. Sized (grow s) z) (rounded rounding t) (rounded rounding t)

@@ -20,6 +20,10 @@ minus a b = record { re = a .re -ℤ b .re; im = a .im -ℤ b .im }
 abbrev pub times : Point → Point → Point
 times a b = record { re = a .re *ℤ b .re -ℤ a .im *ℤ b .im; im = a .re *ℤ b .im +ℤ a .im *ℤ b .re }
 
+-- Points with the same parts.
+pub same-parts : {a b : Point} → a .re ≡ b .re → a .im ≡ b .im → a ≡ b
+same-parts re im = λ i. record { re = re i; im = im i }
+
 -- Both parts by one function.
 abbrev pub each : (ℤ → ℤ) → Point → Point
 each f z = record { re = f (z .re); im = f (z .im) }
@@ -72,14 +76,14 @@ pub minus-sized : {m : ℕ} {a b : Point} → Sized m a → Sized m b → Sized 
 minus-sized {a = a} {b = b} h l = record { real = omega (arith, natAbs-sub (a .re) (b .re)); imaginary = omega (arith, natAbs-sub (a .im) (b .im)) }
 
 -- The two products of a part.
-pub products-sized : {t : Point} {m : ℕ} → Turn t → (x y : ℤ) → natAbs x ≤ m → natAbs y ≤ m → natAbs (t .re *ℤ x) + natAbs (t .im *ℤ y) ≤ 23171 * m
-products-sized {t} {m} k x y h l =
-    omega (arith, natAbs-mul (t .re) x, natAbs-mul (t .im) y, mul-le-mul-left (natAbs (t .re)) h, mul-le-mul-left (natAbs (t .im)) l, mul-le-mul-right m (k .sizes))
+pub products-sized : {m : ℕ} (c d x y : ℤ) → natAbs c + natAbs d ≤ 23171 → natAbs x ≤ m → natAbs y ≤ m → natAbs (c *ℤ x) + natAbs (d *ℤ y) ≤ 23171 * m
+products-sized {m} c d x y k h l =
+    omega (arith, natAbs-mul c x, natAbs-mul d y, mul-le-mul-left (natAbs c) h, mul-le-mul-left (natAbs d) l, mul-le-mul-right m k)
 
 pub turned-sized : {m : ℕ} {t a b : Point} → Turn t → Sized m a → Sized m b → Sized (46342 * m) (turned t a b)
 turned-sized {m} {t} {a} {b} k h l =
     let d = minus-sized h l in
     record {
-      real = omega (arith, products-sized k (a .re -ℤ b .re) (a .im -ℤ b .im) (d .real) (d .imaginary), natAbs-sub (t .re *ℤ (a .re -ℤ b .re)) (t .im *ℤ (a .im -ℤ b .im)));
-      imaginary = omega (arith, products-sized k (a .im -ℤ b .im) (a .re -ℤ b .re) (d .imaginary) (d .real), natAbs-add (t .re *ℤ (a .im -ℤ b .im)) (t .im *ℤ (a .re -ℤ b .re)));
+      real = omega (arith, products-sized (t .re) (t .im) (a .re -ℤ b .re) (a .im -ℤ b .im) (k .sizes) (d .real) (d .imaginary), natAbs-sub (t .re *ℤ (a .re -ℤ b .re)) (t .im *ℤ (a .im -ℤ b .im)));
+      imaginary = omega (arith, products-sized (t .re) (t .im) (a .im -ℤ b .im) (a .re -ℤ b .re) (k .sizes) (d .imaginary) (d .real), natAbs-add (t .re *ℤ (a .im -ℤ b .im)) (t .im *ℤ (a .re -ℤ b .re)));
     }
