@@ -14,7 +14,7 @@ use Rattle.fourier.specs.Schedules.{Schedule, Buffer}
 use Rattle.fourier.specs.Leaves.{Leaves, Keeps, related}
 use Rattle.points.specs.declared.Point.{Point}
 use Rattle.points.specs.Rounding.{Rounding, Half}
-use Rattle.points.specs.Steps.{plus, minus, turned, each, scaled, rounded, unrounded, Sized, Turn, Turns, sized-up, plus-sized, turned-sized}
+use Rattle.points.specs.Steps.{plus, minus, same-parts, turned, each-part, scaled, rounded, unrounded, Sized, Turns, each-sized, sized-up, plus-sized, turned-sized}
 
 -- ---- definitions
 
@@ -34,7 +34,7 @@ Near s r u = Sized (distance s) (gap (2 ^ (15 * s)) r u)
 -- ---- what a step does to a gap, where nothing is rounded
 
 plus-gap : (q : ℕ) (a b c d : Point) → gap (q * 16384) (plus a b) (scaled 16384 (plus c d)) ≡ scaled 16384 (plus (gap q a c) (gap q b d))
-plus-gap q a b c d = λ i. record { re = part (a .re) (b .re) (c .re) (d .re) i; im = part (a .im) (b .im) (c .im) (d .im) i }
+plus-gap q a b c d = same-parts (part (a .re) (b .re) (c .re) (d .re)) (part (a .im) (b .im) (c .im) (d .im))
   where
     part : (a b c d : ℤ) → pos (q * 16384) *ℤ (a +ℤ b) -ℤ pos 16384 *ℤ (c +ℤ d) ≡ pos 16384 *ℤ ((pos q *ℤ a -ℤ c) +ℤ (pos q *ℤ b -ℤ d))
     part a b c d =
@@ -43,27 +43,21 @@ plus-gap q a b c d = λ i. record { re = part (a .re) (b .re) (c .re) (d .re) i;
 turned-gap : (q : ℕ) (t a b c d : Point) → gap q (turned t a b) (turned t c d) ≡ turned t (gap q a c) (gap q b d)
 turned-gap q t a b c d =
     let all = pos q ∷ t .re ∷ t .im ∷ a .re ∷ a .im ∷ b .re ∷ b .im ∷ c .re ∷ c .im ∷ d .re ∷ d .im ∷ [] in
-    λ i. record {
-      re =
-          ring integers all
-          (v 0 :* (v 1 :* (v 3 :- v 5) :- v 2 :* (v 4 :- v 6)) :- (v 1 :* (v 7 :- v 9) :- v 2 :* (v 8 :- v 10)))
-          (v 1 :* ((v 0 :* v 3 :- v 7) :- (v 0 :* v 5 :- v 9)) :- v 2 :* ((v 0 :* v 4 :- v 8) :- (v 0 :* v 6 :- v 10))) refl i;
-      im =
-          ring integers all
-          (v 0 :* (v 1 :* (v 4 :- v 6) :+ v 2 :* (v 3 :- v 5)) :- (v 1 :* (v 8 :- v 10) :+ v 2 :* (v 7 :- v 9)))
-          (v 1 :* ((v 0 :* v 4 :- v 8) :- (v 0 :* v 6 :- v 10)) :+ v 2 :* ((v 0 :* v 3 :- v 7) :- (v 0 :* v 5 :- v 9))) refl i;
-    }
+    same-parts
+    (ring integers all
+    (v 0 :* (v 1 :* (v 3 :- v 5) :- v 2 :* (v 4 :- v 6)) :- (v 1 :* (v 7 :- v 9) :- v 2 :* (v 8 :- v 10)))
+    (v 1 :* ((v 0 :* v 3 :- v 7) :- (v 0 :* v 5 :- v 9)) :- v 2 :* ((v 0 :* v 4 :- v 8) :- (v 0 :* v 6 :- v 10))) refl)
+    (ring integers all
+    (v 0 :* (v 1 :* (v 4 :- v 6) :+ v 2 :* (v 3 :- v 5)) :- (v 1 :* (v 8 :- v 10) :+ v 2 :* (v 7 :- v 9)))
+    (v 1 :* ((v 0 :* v 4 :- v 8) :- (v 0 :* v 6 :- v 10)) :+ v 2 :* ((v 0 :* v 3 :- v 7) :- (v 0 :* v 5 :- v 9))) refl)
 
 -- ---- what rounding adds
 
 scaled-sized : (c : ℕ) {m : ℕ} {z : Point} → Sized m z → Sized (c * m) (scaled c z)
-scaled-sized c {m} {z} h = record { real = part (z .re) (h .real); imaginary = part (z .im) (h .imaginary) }
-  where
-    part : (x : ℤ) → natAbs x ≤ m → natAbs (pos c *ℤ x) ≤ c * m
-    part x l = omega (arith, natAbs-mul (pos c) x, mul-le-mul-left c l)
+scaled-sized c = each-sized (λ x. pos c *ℤ x) (λ x l. omega (arith, natAbs-mul (pos c) x, mul-le-mul-left c l))
 
 module _ {rounding : Rounding} (half : Half rounding) where
-  -- A rounded part, q times D of it, where q times what was rounded is E from u.
+  -- Where q times what is rounded is at most E from u, q D times what it becomes is at most q D/2 further.
   round-gap : (q D E : ℕ) (w u : ℤ) → 0 < D → natAbs (pos q *ℤ w -ℤ u) ≤ E → 2 * natAbs (pos (q * D) *ℤ rounding D w -ℤ u) ≤ 2 * E + q * D
   round-gap q D E w u pos-D h =
       rw (ring integers (pos q ∷ pos D ∷ rounding D w ∷ w ∷ u ∷ []) (v 0 :* v 1 :* v 2 :- v 4) (v 0 :* (v 1 :* v 2 :- v 3) :+ (v 0 :* v 3 :- v 4)) refl)
@@ -74,8 +68,8 @@ module _ {rounding : Rounding} (half : Half rounding) where
         mul-le-mul-left q (half .errs D w pos-D),
       ))
 
-  -- The next stage's bound.
-  round-near : (s q D : ℕ) (w u : Point) → 0 < D → 2 ^ (15 * s) * 32768 ≡ q * D → Sized (46342 * distance s) (gap q w u) → Near (suc s) (each (rounding D) w) u
+  -- So rounding takes a part from one stage's bound to the next.
+  round-near : (s q D : ℕ) (w u : Point) → 0 < D → 2 ^ (15 * s) * 32768 ≡ q * D → Sized (46342 * distance s) (gap q w u) → Near (suc s) (each-part (rounding D) w) u
   unfolding distance
   round-near s q D w u pos-D e h = record { real = part (w .re) (u .re) (h .real); imaginary = part (w .im) (u .im) (h .imaginary) }
     where

@@ -10,9 +10,10 @@ use Rattle.fourier.specs.Schedules.{Schedule, Buffer}
 use Rattle.fourier.specs.Leaves.{Leaves, Keeps, related}
 use Rattle.points.specs.declared.Point.{Point}
 use Rattle.points.specs.Rounding.{Rounding, Half}
-use Rattle.points.specs.Steps.{turned, each, rounded, Sized, Turns, sized-up, plus-sized, turned-sized}
+use Rattle.points.specs.Steps.{rounded, Sized, Turns, each-sized, sized-up, plus-sized, turned-sized}
 
--- The size of a part after s stages. It begins with 32,768, one more than a sample's part has, so that -32,768 is covered too.
+-- The size of a part after s stages. A sample's part is at most 32,767 in size; `grow` begins with 32,768, so that a part of -32,768 would
+-- need no change.
 unfoldable pub grow : ℕ → ℕ
 grow zero = 32768
 grow (suc s) = (46342 * grow s + 16384) / 32768
@@ -38,14 +39,11 @@ module _ {rounding : Rounding} (half : Half rounding) where
       rw -ℤ-+ℤ-cancel at (natAbs-add (pos D *ℤ rounding D z -ℤ z) z) in
       le-of-suc-le-suc (lt-of-mul-lt-mul-left D (omega (arith, natAbs-mul (pos D) (rounding D z), half .errs D z pos-D)))
 
-  round-sized : (D m k : ℕ) (w : Point) → 0 < D → 2 * m + D < 2 * (D * suc k) → Sized m w → Sized k (each (rounding D) w)
-  round-sized D m k w pos-D room h = record { real = round-size D m k (w .re) pos-D room (h .real); imaginary = round-size D m k (w .im) pos-D room (h .imaginary) }
-
   -- The rounded step keeps the sizes.
   pub sized-kept : (n : ℕ) {t : ℕ → Point} → Turns t (2 ^ (n - 1)) → Keeps n (λ s z _. Sized (grow s) z) (rounded rounding t) (rounded rounding t)
   unfolding grow
-  sized-kept n turns s zero e a b _ _ l h g = sized-up (round-sized 2 (2 * grow s) (grow s) _ (lit< tt) (omega arith) (plus-sized h g)) (grow-next s)
-  sized-kept n turns s (suc x) e a b _ _ l h g = round-sized 32768 (46342 * grow s) (grow (suc s)) _ (lit< tt) (omega arith) (turned-sized (turns .each e l) h g)
+  sized-kept n turns s zero e a b _ _ l h g = sized-up (each-sized (rounding 2) (λ z. round-size 2 (2 * grow s) (grow s) z (lit< tt) (omega arith)) (plus-sized h g)) (grow-next s)
+  sized-kept n turns s (suc x) e a b _ _ l h g = each-sized (rounding 32768) (λ z. round-size 32768 (46342 * grow s) (grow (suc s)) z (lit< tt) (omega arith)) (turned-sized (turns .each e l) h g)
 
   -- The parts of what a schedule leaves of samples.
   pub results-grow : {e : Exponents} {n : ℕ} {order index : ℕ → ℕ} {f : Schedule} {t : ℕ → Point} → Leaves e n order index f → Turns t (2 ^ (n - 1)) →

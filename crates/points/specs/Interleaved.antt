@@ -4,6 +4,7 @@ use mathlib.Core.Path.{_≡_, sym, ap, _∙_}
 use mathlib.Core.Bool.{cond}
 use mathlib.Core.List.{List}
 use mathlib.Core.Logic.{⊎-elim}
+use native.Mathlib.Numerals.{add-one}
 use native.Mathlib.Omega.{arith}
 use lib.Dec.{eqb}
 use lib.IntN.{ℤ, pos}
@@ -11,8 +12,9 @@ use lib.ListN.{length, getD, set, length-set}
 use lib.Seq.{getD-set-same, getD-set-other}
 use borrow.Author.Tests.{eq-eqb, ne-eqb}
 use Rattle.answer.specs.Cases.{eq-or-ne}
-use Rattle.answer.specs.Lists.{tabulate, Holds, length-tabulate, getD-tabulate, listed, holds-tabulate}
+use Rattle.answer.specs.Lists.{tabulate, Holds, length-tabulate, getD-tabulate, listed, holds, holds-tabulate}
 use Rattle.points.specs.declared.Point.{Point}
+use Rattle.points.specs.Steps.{same-parts}
 
 -- ---- definitions
 
@@ -34,7 +36,7 @@ interleaved n f = tabulate (n + n) (part f)
 
 -- The buffer with z as point p.
 abbrev pub put : List ℤ → ℕ → Point → List ℤ
-put l p z = set (set l (p + p) (z .re)) (suc (p + p)) (z .im)
+put l p z = set (set l (p + p) (z .re)) (p + p + 1) (z .im)
 
 -- The points of a buffer.
 abbrev pub points : List ℤ → List Point
@@ -60,7 +62,7 @@ by-parts P re im q =
 module _ (l : List ℤ) (n : ℕ) (f : ℕ → Point) where
   -- The two ways to say which points a buffer holds.
   pub point-held : Holds (pos 0) l (n + n) (part f) → (p : ℕ) → p < n → point l p ≡ f p
-  point-held r p h = λ i. record { re = (r .here (p + p) (omega arith) ∙ part-re f p) i; im = (r .here (suc (p + p)) (omega arith) ∙ part-im f p) i }
+  point-held r p h = same-parts (r .here (p + p) (omega arith) ∙ part-re f p) (r .here (suc (p + p)) (omega arith) ∙ part-im f p)
 
   pub held-points : length l ≡ n + n → ((p : ℕ) → p < n → point l p ≡ f p) → Holds (pos 0) l (n + n) (part f)
   held-points long here = record {
@@ -74,6 +76,9 @@ module _ (l : List ℤ) (n : ℕ) (f : ℕ → Point) where
   pub interleaved-by : length l ≡ n + n → ((p : ℕ) → p < n → point l p ≡ f p) → l ≡ interleaved n f
   interleaved-by long here = listed (held-points long here)
 
+  pub points-interleaved : length l ≡ n + n → points l ≡ tabulate n f → l ≡ interleaved n f
+  points-interleaved long e = interleaved-by long (λ p h. sym (getD-tabulate (f p) (length l / 2) (point l) p (omega arith)) ∙ holds e .here p h)
+
 pub point-interleaved : (n : ℕ) (f : ℕ → Point) (p : ℕ) → p < n → point (interleaved n f) p ≡ f p
 point-interleaved n f = point-held (interleaved n f) n f (holds-tabulate (n + n) (part f))
 
@@ -83,23 +88,21 @@ module _ (l : List ℤ) (p : ℕ) (z : Point) where
   pub length-put : length (put l p z) ≡ length l
   length-put = simp length-set
 
-  pub point-put-same : suc (p + p) < length l → point (put l p z) p ≡ z
-  point-put-same h = λ i. record { re = re i; im = im i }
-    where
-      re : number (put l p z) (p + p) ≡ z .re
-      re = getD-set-other (set l (p + p) (z .re)) (suc (p + p)) (p + p) (z .im) (pos 0) (λ e. omega arith) ∙ getD-set-same l (p + p) (z .re) (pos 0) (omega arith)
-
-      im : number (put l p z) (suc (p + p)) ≡ z .im
-      im = getD-set-same (set l (p + p) (z .re)) (suc (p + p)) (z .im) (pos 0) (rw length-set h)
+  pub point-put-same : p + p + 1 < length l → point (put l p z) p ≡ z
+  point-put-same h =
+      let set-re = set l (p + p) (z .re) in
+      same-parts
+      (getD-set-other set-re (p + p + 1) (p + p) (z .im) (pos 0) (λ e. omega arith) ∙ getD-set-same l (p + p) (z .re) (pos 0) (omega arith))
+      (rw (← add-one (p + p)) (getD-set-same set-re (p + p + 1) (z .im) (pos 0) (rw length-set h)))
 
   pub point-put-other : (q : ℕ) → (q ≡ p → ⊥) → point (put l p z) q ≡ point l q
-  point-put-other q n = λ i. record { re = same (q + q) (λ e. n (omega arith)) (λ e. omega arith) i; im = same (suc (q + q)) (λ e. omega arith) (λ e. n (omega arith)) i }
+  point-put-other q n = same-parts (same (q + q) (λ e. n (omega arith)) (λ e. omega arith)) (same (suc (q + q)) (λ e. omega arith) (λ e. n (omega arith)))
     where
-      same : (k : ℕ) → (k ≡ p + p → ⊥) → (k ≡ suc (p + p) → ⊥) → number (put l p z) k ≡ number l k
-      same k a b = getD-set-other (set l (p + p) (z .re)) (suc (p + p)) k (z .im) (pos 0) b ∙ getD-set-other l (p + p) k (z .re) (pos 0) a
+      same : (k : ℕ) → (k ≡ p + p → ⊥) → (k ≡ p + p + 1 → ⊥) → number (put l p z) k ≡ number l k
+      same k a b = getD-set-other (set l (p + p) (z .re)) (p + p + 1) k (z .im) (pos 0) b ∙ getD-set-other l (p + p) k (z .re) (pos 0) a
 
   -- Laws of lists of points serve buffers: to put a point is to set it.
-  pub points-put : suc (p + p) < length l → points (put l p z) ≡ set (points l) p z
+  pub points-put : p + p + 1 < length l → points (put l p z) ≡ set (points l) p z
   points-put h = rw length-put (sym (listed {d = z} (record { long = simp (length-set, length-tabulate); here = here })))
     where
       here : (q : ℕ) → q < length l / 2 → getD (set (points l) p z) q z ≡ point (put l p z) q

@@ -7,7 +7,7 @@ use native.Mathlib.Omega.{arith}
 use lib.IntN.{ℤ, pos, negsuc, natAbs, _+ℤ_, _-ℤ_, _*ℤ_, negℤ}
 use lib.Signed.{shrZ}
 use Rattle.algebra.specs.Integers.{integers, natAbs-diff}
-use Rattle.algebra.specs.Solver.{v, _:+_, _:-_, _:*_, :neg, ring}
+use Rattle.algebra.specs.Solver.{v, _:+_, _:-_, :neg, ring}
 
 -- ---- definitions
 
@@ -48,15 +48,14 @@ floor-split D (negsuc a) h =
 -- ---- a half goes up
 
 pub half-up-half : Half half-up
-half-up-half = record { errs = errs }
-  where
-    errs : (D : ℕ) (z : ℤ) → 0 < D → 2 * natAbs (pos D *ℤ half-up D z -ℤ z) ≤ D
-    errs D z h =
-        let w = z +ℤ pos (D / 2) in
-        let r = left D w in
-        let l : r < D = left-below D w h in
-        let e : pos D *ℤ floor D w -ℤ z ≡ pos (D / 2) -ℤ pos r =
-        ring integers ((pos D *ℤ floor D w) ∷ z ∷ pos r ∷ []) (v 0 :- v 1) (v 0 :+ v 2 :- v 1 :- v 2) refl
-        ∙ rw (← floor-split D w h) (ring integers (z ∷ pos (D / 2) ∷ pos r ∷ []) (v 0 :+ v 1 :- v 0 :- v 2) (v 1 :- v 2) refl) in
-        let m : natAbs (pos (D / 2) -ℤ pos r) ≤ D / 2 = natAbs-diff (D / 2) r (D / 2) (omega arith) (omega arith) in
-        rw e (omega arith)
+half-up-half = record {
+  errs = λ D z h.
+      let w = z +ℤ pos (D / 2) in
+      let r = left D w in
+      let l : r < D = left-below D w h in
+      let e : pos D *ℤ floor D w -ℤ z ≡ pos (D / 2) -ℤ pos r =
+      ring integers ((pos D *ℤ floor D w) ∷ z ∷ pos r ∷ []) (v 0 :- v 1) (v 0 :+ v 2 :- v 1 :- v 2) refl
+      ∙ rw (← floor-split D w h) (ring integers (z ∷ pos (D / 2) ∷ pos r ∷ []) (v 0 :+ v 1 :- v 0 :- v 2) (v 1 :- v 2) refl) in
+      let m : natAbs (pos (D / 2) -ℤ pos r) ≤ D / 2 = natAbs-diff (D / 2) r (D / 2) (omega arith) (omega arith) in
+      rw e (omega arith);
+}

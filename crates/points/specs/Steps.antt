@@ -1,6 +1,6 @@
 -- A stage's step on two points, rounded and without rounding, and the sizes of what it works out.
 use Prim.Native.Nat.{ℕ, zero, suc, _+_, _*_, _<_, _≤_}
-use mathlib.Core.Path.{_≡_, refl}
+use mathlib.Core.Path.{_≡_}
 use native.Mathlib.Nat.{mul-le-mul-left, mul-le-mul-right}
 use native.Mathlib.Omega.{arith}
 use lib.IntN.{ℤ, pos, natAbs, _+ℤ_, _-ℤ_, _*ℤ_}
@@ -20,17 +20,13 @@ minus a b = record { re = a .re -ℤ b .re; im = a .im -ℤ b .im }
 abbrev pub times : Point → Point → Point
 times a b = record { re = a .re *ℤ b .re -ℤ a .im *ℤ b .im; im = a .re *ℤ b .im +ℤ a .im *ℤ b .re }
 
--- Points with the same parts.
-pub same-parts : {a b : Point} → a .re ≡ b .re → a .im ≡ b .im → a ≡ b
-same-parts re im = λ i. record { re = re i; im = im i }
-
--- Both parts by one function.
-abbrev pub each : (ℤ → ℤ) → Point → Point
-each f z = record { re = f (z .re); im = f (z .im) }
+-- Each part by one function.
+abbrev pub each-part : (ℤ → ℤ) → Point → Point
+each-part f z = record { re = f (z .re); im = f (z .im) }
 
 -- c times a point.
 abbrev pub scaled : ℕ → Point → Point
-scaled c = each (λ z. pos c *ℤ z)
+scaled c = each-part (λ z. pos c *ℤ z)
 
 -- ---- steps
 
@@ -41,8 +37,8 @@ turned t a b = times t (minus a b)
 -- "A stage replaces a, b by (a + b)/2 and T(a - b)/32,768, where T is the table's pair at the exponent. Each part is worked out whole
 -- and rounded once."
 abbrev pub rounded : Rounding → (ℕ → Point) → Wing Point
-rounded rounding t zero e a b = each (rounding 2) (plus a b)
-rounded rounding t (suc x) e a b = each (rounding 32768) (turned (t e) a b)
+rounded rounding t zero e a b = each-part (rounding 2) (plus a b)
+rounded rounding t (suc x) e a b = each-part (rounding 32768) (turned (t e) a b)
 
 -- "A stage replaces a, b by 16,384(a + b) and T(a - b), whole numbers of any size."
 abbrev pub unrounded : (ℕ → Point) → Wing Point
@@ -60,12 +56,21 @@ pub record Sized (m : ℕ) (z : Point) : Type 0 where
 pub record Turn (t : Point) : Type 0 where
   pub sizes : natAbs (t .re) + natAbs (t .im) ≤ 23171
 
--- The pairs below h of a table.
+-- So it is of the pairs below h of a table.
 pub record Turns (t : ℕ → Point) (h : ℕ) : Type 0 where
   pub each : (e : ℕ) → e < h → Turn (t e)
 
+-- ---- points by their parts
+
+pub same-parts : {a b : Point} → a .re ≡ b .re → a .im ≡ b .im → a ≡ b
+same-parts re im = λ i. record { re = re i; im = im i }
+
+-- What a function does to the size of a number, it does to both parts.
+pub each-sized : (f : ℤ → ℤ) {m k : ℕ} {z : Point} → ((x : ℤ) → natAbs x ≤ m → natAbs (f x) ≤ k) → Sized m z → Sized k (each-part f z)
+each-sized f {z = z} by h = record { real = by (z .re) (h .real); imaginary = by (z .im) (h .imaginary) }
+
 pub sized-up : {m n : ℕ} {z : Point} → Sized m z → m ≤ n → Sized n z
-sized-up h l = record { real = omega arith; imaginary = omega arith }
+sized-up h l = each-sized (λ x. x) (λ x g. omega arith) h
 
 -- ---- what a step works out
 

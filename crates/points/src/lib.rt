@@ -1,11 +1,11 @@
 // Points: complex numbers in fixed point. The step on two points, and points in a lent buffer.
 ghost use mathlib.Core.Path.{_≡_};
-ghost use Prim.Native.Nat.{suc, _+_, _*_, _^_, _≤_, _<_};
+ghost use Prim.Native.Nat.{_+_, _*_, _^_, _≤_, _<_};
 ghost use lib.IntN.{natAbs, _+ℤ_, _-ℤ_, _*ℤ_};
 ghost use lib.ListN.{length};
 ghost use Rattle.points.specs.Interleaved.{point, put};
 ghost use Rattle.points.specs.Rounding.{half-up};
-ghost use Rattle.points.specs.Steps.{plus, turned, each, Sized, Turn};
+ghost use Rattle.points.specs.Steps.{plus, turned, each-part, Sized, Turn};
 
 // A complex number in two parts.
 pub struct Point {
@@ -20,7 +20,7 @@ pub struct Parts(pub Point, pub Point);
 pub fn pair(t: Point, a: Point, b: Point) -> Parts
     requires { ⌜ Turn t ⌝ }
     requires { ⌜ Sized (2 ^ 22) a × Sized (2 ^ 22) b ⌝ }
-    ensures { λ r. ⌜ (r .0 ≡ each (half-up 2) (plus a b)) × (r .1 ≡ each (half-up 32768) (turned t a b)) ⌝ }
+    ensures { λ r. ⌜ (r .0 ≡ each-part (half-up 2) (plus a b)) × (r .1 ≡ each-part (half-up 32768) (turned t a b)) ⌝ }
 {
     let sum = plus(a, b);
     let product = twist(t, a, b);
@@ -30,7 +30,7 @@ pub fn pair(t: Point, a: Point, b: Point) -> Parts
 // (a + b)/2.
 fn plus(a: Point, b: Point) -> Point
     requires { ⌜ Sized (2 ^ 22) a × Sized (2 ^ 22) b ⌝ }
-    ensures { λ r. ⌜ r ≡ each (half-up 2) (plus a b) ⌝ }
+    ensures { λ r. ⌜ r ≡ each-part (half-up 2) (plus a b) ⌝ }
 {
     Point {
         re: half_sum(a.re, b.re),
@@ -42,7 +42,7 @@ fn plus(a: Point, b: Point) -> Point
 fn twist(t: Point, a: Point, b: Point) -> Point
     requires { ⌜ Turn t ⌝ }
     requires { ⌜ Sized (2 ^ 22) a × Sized (2 ^ 22) b ⌝ }
-    ensures { λ r. ⌜ r ≡ each (half-up 32768) (turned t a b) ⌝ }
+    ensures { λ r. ⌜ r ≡ each-part (half-up 32768) (turned t a b) ⌝ }
 {
     Point {
         re: turned_part(t.re, a.re, b.re, t.im, b.im, a.im),
@@ -85,22 +85,24 @@ fn reduced_sum(x: i64, y: i64) -> i32
 
 // Point p of a buffer.
 pub fn point_at(buf: &[i32], p: usize) -> Point
-    requires { ⌜ suc (p + p) < length (now buf) ⌝ }
+    requires { ⌜ p + p + 1 < length (now buf) ⌝ }
     ensures { λ r. ⌜ r ≡ point (now (buf .entry)) p ⌝ }
 {
+    let at = p + p;
     Point {
-        re: buf[p + p],
-        im: buf[p + p + 1],
+        re: buf[at],
+        im: buf[at + 1],
     }
 }
 
 // Point p of a buffer becomes z.
 pub fn put_point(buf: &mut [i32], p: usize, z: Point)
-    requires { ⌜ suc (p + p) < length (now buf) ⌝ }
+    requires { ⌜ p + p + 1 < length (now buf) ⌝ }
     ensures { λ _. ⌜ now (buf .exit) ≡ put (now (buf .entry)) p z ⌝ }
 {
     let re = z.re;
     let im = z.im;
-    buf[p + p] = re;
-    buf[p + p + 1] = im;
+    let at = p + p;
+    buf[at] = re;
+    buf[at + 1] = im;
 }

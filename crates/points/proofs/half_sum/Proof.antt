@@ -1,4 +1,4 @@
--- The sum of two parts of 23 bits and its half, rounded up, are an i32.
+-- The sum and its half are an i32.
 use lib.IntN.{_+ℤ_}
 use mir.Syntax.{w32}
 use borrow.Author.Needs.{needs}

@@ -1,3 +1,4 @@
+-- Each part is what half_sum gave.
 use mathlib.Core.Path.{_∙_}
 use mir.Syntax.{w32}
 use borrow.Author.Needs.{needs}
@@ -5,9 +6,6 @@ use Rattle.points.specs.Steps.{same-parts}
 use Rattle.points.proofs.Fits.{back}
 use Rattle.points.proofs.plus.Statement.{statement}
 use Rattle.points.proofs.plus.Tie as tie
-use Rattle.points.proofs.plus.Reads as reads
-use Rattle.points.proofs.plus.Lts as lts
-use Rattle.points.proofs.half_sum.Reads as half-sum-reads
 
 half-sum-requires : tie.Need-half-sum-requires
 half-sum-requires c κs = search needs

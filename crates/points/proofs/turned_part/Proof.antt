@@ -1,12 +1,11 @@
 -- The two products are what the calls gave, and their sizes sum to at most 23,171 times 2^23.
 use Prim.Native.Nat.{_^_, _≤_}
-use mathlib.Core.Path.{_≡_, _∙_, ap₂}
+use mathlib.Core.Path.{_≡_, _∙_}
 use native.Mathlib.Omega.{arith}
-use lib.IntN.{ℤ, natAbs, _+ℤ_, _-ℤ_, _*ℤ_}
+use lib.IntN.{natAbs, _-ℤ_, _*ℤ_}
 use mir.Syntax.{w32, w64}
 use mir.Val.{toZ, ofZ}
 use Rattle.algebra.specs.Integers.{natAbs-sub}
-use Rattle.points.specs.Rounding.{half-up}
 use Rattle.points.specs.Steps.{products-sized}
 use Rattle.points.proofs.Fits.{back}
 use borrow.Author.Needs.{needs}

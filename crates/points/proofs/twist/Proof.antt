@@ -1,3 +1,4 @@
+-- Each part is what turned_part gave; for the real part the second difference is taken the other way round.
 use mathlib.Core.Path.{_≡_, refl, _∙_}
 use mathlib.Core.List.{[], _∷_}
 use lib.IntN.{ℤ, _+ℤ_, _-ℤ_, _*ℤ_}
@@ -9,9 +10,6 @@ use Rattle.points.proofs.Fits.{back}
 use borrow.Author.Needs.{needs}
 use Rattle.points.proofs.twist.Statement.{statement}
 use Rattle.points.proofs.twist.Tie as tie
-use Rattle.points.proofs.twist.Reads as reads
-use Rattle.points.proofs.twist.Lts as lts
-use Rattle.points.proofs.turned_part.Reads as turned-part-reads
 
 opposite : (c x d a b : ℤ) → c *ℤ x -ℤ d *ℤ (a -ℤ b) ≡ c *ℤ x +ℤ d *ℤ (b -ℤ a)
 opposite c x d a b = ring integers (c ∷ x ∷ d ∷ a ∷ b ∷ []) (v 0 :* v 1 :- v 2 :* (v 3 :- v 4)) (v 0 :* v 1 :+ v 2 :* (v 4 :- v 3)) refl
@@ -26,7 +24,9 @@ returns : tie.Need-returns
 returns c =
     let b = c .before .before .before .before .before .before .before in
     let s = b .before .before .before .before .before .before .before .args in
-    same-parts (back w32 (b .turned-part .ok) (b .turned-part .ensures ∙ rw (opposite (s .t .re) (s .a .re -ℤ s .b .re) (s .t .im) (s .a .im) (s .b .im)) (search needs))) (back w32 (c .turned-part2 .ok) (c .turned-part2 .ensures ∙ search needs))
+    same-parts
+    (back w32 (b .turned-part .ok) (b .turned-part .ensures ∙ rw (opposite (s .t .re) (s .a .re -ℤ s .b .re) (s .t .im) (s .a .im) (s .b .im)) (search needs)))
+    (back w32 (c .turned-part2 .ok) (c .turned-part2 .ensures ∙ search needs))
 
 pub twist-spec : {M : Type 1} → statement M
 twist-spec = tie.close (tie.spec turned-part-requires turned-part-requires-2 returns)
