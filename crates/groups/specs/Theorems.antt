@@ -293,3 +293,17 @@ reading-begun s k p (suc j) i low h l =
 
 pub number-begun : (s : List ℕ) (k p : ℕ) → p + 5 ≤ k → k ≤ length s → number-at (take k s) p ≡ number-at s p
 number-begun s k p h l = reading-begun s k p 5 0 0 (omega arith) l
+
+-- The place behind a number is at most five bytes on.
+reading-near : (s : List ℕ) (p k i low v q : ℕ) → reading s p k i low ≡ Value v q → q ≤ p + i + k
+unfolding reading
+reading-near s p zero i low v q e = clash (cc e)
+reading-near s p (suc k) i low v q e = by (decLt (p + i) (length s)) (decLt (at s (p + i)) 128) (reading-near s p k (suc i) (low + 128 ^ i * (at s (p + i) - 128)) v q)
+  where
+    by : Dec (p + i < length s) → Dec (at s (p + i) < 128) → (reading s p k (suc i) (low + 128 ^ i * (at s (p + i) - 128)) ≡ Value v q → q ≤ p + suc i + k) → q ≤ p + i + suc k
+    by (yes h) (yes l) ih = let is = whole-is p i (at s (p + i)) _ v q (sym (reading-last s p k i low h l) ∙ e) in omega (arith, is .1)
+    by (yes h) (no l) ih = let near = ih (sym (reading-more s p k i low h (omega arith)) ∙ e) in omega arith
+    by (no h) l ih = clash (cc (reading-ended s p k i low (omega arith), e))
+
+pub number-near : (s : List ℕ) (p v q : ℕ) → number-at s p ≡ Value v q → q ≤ p + 5
+number-near s p v q e = let near = reading-near s p 5 0 0 v q e in omega arith

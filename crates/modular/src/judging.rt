@@ -56,8 +56,8 @@ fn judge_rest(schedule: u32, buf: &[u32], m: u32, table: &[u32], scratch: usize)
     judge_lent(buf, m, table)
 }
 
-// The schedules of the whole transform.
-fn offered(schedule: u32) -> bool
+// Whether the transform offers the schedule.
+pub fn offered(schedule: u32) -> bool
     ensures { λ r. ⌜ r ≡ offers schedule ⌝ }
 {
     if schedule < 1 {

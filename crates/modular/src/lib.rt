@@ -9,5 +9,6 @@ mod working;
 pub use accepting::accept;
 pub use inverting::inverse;
 pub use inverting::reverse;
+pub use judging::offered;
 pub use staging::stage;
 pub use transforming::transform;

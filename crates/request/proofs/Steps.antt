@@ -1,0 +1,169 @@
+-- The steps of a request, by what was read.
+use Prim.Native.Nat.{ℕ, zero, suc, _/_, _<_, _≤_}
+use mathlib.Core.Path.{_≡_, refl, sym, ap, _∙_}
+use mathlib.Core.Bool.{Bool, true, false, cond}
+use mathlib.Core.List.{List, [], _++_, append-nil}
+use native.Mathlib.Nat.{zero-add}
+use native.Mathlib.Omega.{arith}
+use lib.ListN.{length, drop}
+use lib.Seq.{sets, sets-eq, drop-length}
+use lib.Dec.{eqb, leb}
+use borrow.Author.Tests.{le-leb, lt-leb, eq-eqb}
+use Rattle.answer.specs.declared.Answer.{Answer}
+use Rattle.answer.specs.Choice.{refuse, refuse-at, done-left, refused-left}
+use Rattle.answer.specs.Lists.{at}
+use Rattle.groups.specs.declared.Number.{Number}
+use Rattle.groups.specs.declared.Number.the-variants.{Value, Fault}
+use Rattle.groups.specs.Groups.{number-at}
+use Rattle.modular.specs.Verdicts.{offers, permitted-length, through-scratch, scratch-fits, lent-verdict, rest-verdict, transform-verdict}
+use Rattle.modular.specs.Outcomes.{TransformOutcome, transformed}
+use Rattle.request.specs.declared.reading.Many.{Many}
+use Rattle.request.specs.declared.reading.Many.the-variants.{All, Broken}
+use Rattle.request.specs.Requests.{Printed, behind, many-at, and-behind, values-at, refused, refused-unless, follow, judged, with-both, with-table, with-head, asked, printed}
+use Rattle.request.specs.Outcomes.{Given}
+
+abbrev pub answered : Printed → Answer
+answered r = r .answer
+
+-- A refusal has no results.
+pub given-refused : {r : Printed} {answer : Answer} {l : List ℕ} → r ≡ refused answer → Given r l answer 0 l
+given-refused e = rw e (record { answers = refl; counts = refl; leaves = refl })
+
+-- ---- several numbers
+
+-- All n of them are there.
+pub values-whole : (n : ℕ) (s : List ℕ) (p q : ℕ) → many-at n s p ≡ All q → length (values-at n s p) ≡ n
+unfolding many-at values-at behind and-behind
+values-whole zero s p q e = refl
+values-whole (suc n) s p q e = by (number-at s p) (values-whole n s) e
+  where
+    by : (r : Number) → ((p′ q′ : ℕ) → many-at n s p′ ≡ All q′ → length (values-at n s p′) ≡ n) → behind r (many-at n s) ≡ All q → length (and-behind r (values-at n s)) ≡ suc n
+    by (Value v next) ih e = ap suc (ih next q e)
+    by (Fault place) ih e = absurd (clash (cc e))
+      where
+        clash : _≡_ {A = ℕ} 0 1 → ⊥
+        clash h = omega arith
+
+-- Numbers at the start of a list, and as many as there are places.
+pub sets-front : (l vs : List ℕ) (n : ℕ) → length vs ≡ n → n ≤ length l → sets l 0 vs ≡ vs ++ drop n l
+sets-front l vs n e h = sets-eq vs l 0 (omega arith) ∙ rw (zero-add, e)
+
+pub sets-whole : (l vs : List ℕ) → length vs ≡ length l → sets l 0 vs ≡ vs
+sets-whole l vs e = sets-front l vs (length l) e (omega arith) ∙ rw drop-length (append-nil vs)
+
+-- ---- the table, the samples, and both
+
+module _ (s : List ℕ) (m schedule N : ℕ) (table : List ℕ) (q : ℕ) where
+  pub samples-broken : {p : ℕ} → many-at N s q ≡ Broken p → with-table s m schedule N table q ≡ refused (refuse-at 10 p)
+  unfolding with-table
+  samples-broken e = rw e
+
+  module _ {end : ℕ} (e : many-at N s q ≡ All end) where
+    pub samples-surplus : end < length s → with-table s m schedule N table q ≡ refused (refuse-at 10 end)
+    unfolding with-table
+    samples-surplus h = simp (e, lt-leb (length s) end h)
+
+    pub samples-whole : length s ≤ end → with-table s m schedule N table q ≡ with-both m schedule table (values-at N s q)
+    unfolding with-table
+    samples-whole h = simp (e, le-leb (length s) end h)
+
+room-fits : (schedule scratch N : ℕ) → scratch ≡ N → scratch-fits schedule scratch N ≡ true
+unfolding scratch-fits
+room-fits schedule scratch N e = by (through-scratch schedule)
+  where
+    by : (t : Bool) → cond t (eqb scratch N) true ≡ true
+    by true = eq-eqb scratch N e
+    by false = refl
+
+-- "Then 2, 4 and 5 follow": of a table and samples of these lengths the transform judges nothing else.
+pub both-judged : (m schedule : ℕ) (table samples : List ℕ) (scratch : ℕ) → offers schedule ≡ true → permitted-length (length samples) ≡ true → length table ≡ length samples / 2 → scratch ≡ length samples →
+    transform-verdict schedule samples m table scratch ≡ judged m table samples
+unfolding transform-verdict rest-verdict lent-verdict judged
+both-judged m schedule table samples scratch offer long half room =
+    simp (offer, long, room-fits schedule scratch (length samples) room, eq-eqb (length table) (length samples / 2) half)
+
+-- What the transform answers and leaves of the samples is what is printed.
+pub samples-transformed : (s : List ℕ) (m schedule : ℕ) (table : List ℕ) (q : ℕ) (samples : List ℕ) {end : ℕ} {read scratch samples′ scratch′ : List ℕ} {answer : Answer} →
+    offers schedule ≡ true → permitted-length (length samples) ≡ true → length table ≡ length samples / 2 → length scratch ≡ length samples →
+    many-at (length samples) s q ≡ All end → length s ≤ end → read ≡ sets samples 0 (values-at (length samples) s q) → TransformOutcome schedule read m table scratch answer samples′ scratch′ →
+    (answer ≡ with-table s m schedule (length samples) table q .answer) × (answer .number ≡ 0 → samples′ ≡ with-table s m schedule (length samples) table q .results)
+samples-transformed s m schedule table q samples {read = read} {scratch} {samples′} {answer = answer} offer long half room many end e out =
+    let long-values = values-whole (length samples) s q _ many in
+    let is : read ≡ values-at (length samples) s q = e ∙ sets-whole samples _ long-values in
+    let verdict : answer ≡ judged m table (values-at (length samples) s q) =
+    rw is at (out .answers) ∙ both-judged m schedule table _ (length scratch) offer (rw long-values long) (rw long-values half) (rw long-values room) in
+    rw (samples-whole s m schedule (length samples) table q many end) (
+      verdict,
+      λ z.
+          rw is at (out .leaves ∙ done-left (transform-verdict schedule read m table (length scratch)) _ read (rw (out .answers) at z))
+          ∙ sym (done-left (judged m table (values-at (length samples) s q)) _ [] (rw verdict at z)),
+    )
+
+module _ (s : List ℕ) (m schedule p : ℕ) (table samples : List ℕ) (half : length table ≡ length samples / 2) where
+  pub table-broken : {place : ℕ} → many-at (length table) s p ≡ Broken place → with-head s m schedule (length samples) p ≡ refused (refuse-at 10 place)
+  unfolding with-head
+  table-broken many = rw (rw half at many)
+
+  -- The table is read, and the samples decide the rest.
+  pub table-whole : {q : ℕ} {read samples′ : List ℕ} {answer : Answer} → many-at (length table) s p ≡ All q → read ≡ sets table 0 (values-at (length table) s p) →
+      (answer ≡ with-table s m schedule (length samples) read q .answer) × (answer .number ≡ 0 → samples′ ≡ with-table s m schedule (length samples) read q .results) →
+      (answer ≡ with-head s m schedule (length samples) p .answer) × (answer .number ≡ 0 → samples′ ≡ with-head s m schedule (length samples) p .results)
+  unfolding with-head
+  table-whole {samples′ = samples′} {answer} many e out =
+      let is = e ∙ sets-whole table (values-at (length table) s p) (values-whole (length table) s p _ many) in
+      rw (rw half at many) (rw (is, half) at out)
+
+-- ---- refusals have no results
+
+abbrev Empty : Printed → Type 0
+Empty r = (r .answer .number ≡ 0 → ⊥) → r .results ≡ []
+
+empty-unless : (b : Bool) (refusal : Answer) (next : Printed) → Empty next → Empty (refused-unless b refusal next)
+empty-unless true refusal next h = h
+empty-unless false refusal next h = λ z. refl
+
+empty-follow : (many : Many) (next : ℕ → Printed) → ((q : ℕ) → Empty (next q)) → Empty (follow many next)
+empty-follow (All q) next h = h q
+empty-follow (Broken p) next h = λ z. refl
+
+empty-head : (s : List ℕ) (m schedule N p : ℕ) → Empty (with-head s m schedule N p)
+unfolding with-head with-table
+empty-head s m schedule N p =
+    empty-follow (many-at (N / 2) s p) _
+    (λ q. empty-follow (many-at N s q) _
+    (λ end. empty-unless (leb (length s) end) _ _
+    (λ z. refused-left (judged m (values-at (N / 2) s p) (values-at N s q)) _ [] z)))
+
+-- ---- the whole request
+
+module _ (s : List ℕ) (m schedule N p : ℕ) where
+  pub not-offered : offers schedule ≡ false → asked s m schedule N p ≡ refused (refuse 7)
+  unfolding asked
+  not-offered e = rw e
+
+  module _ (e : offers schedule ≡ true) where
+    pub not-permitted : permitted-length N ≡ false → asked s m schedule N p ≡ refused (refuse 1)
+    unfolding asked
+    not-permitted h = simp (e, h)
+
+    permitted : permitted-length N ≡ true → asked s m schedule N p ≡ with-head s m schedule N p
+    unfolding asked
+    permitted h = simp (e, h)
+
+    module _ (h : permitted-length N ≡ true) {answer : Answer} (judgement : answer ≡ with-head s m schedule N p .answer) where
+      pub given-none : {l : List ℕ} → (answer .number ≡ 0 → ⊥) → Given (asked s m schedule N p) l answer 0 l
+      given-none z =
+          let none = empty-head s m schedule N p (rw judgement at z) in
+          rw (permitted h) (record { answers = judgement; counts = rw none; leaves = rw none })
+
+      pub given-results : {vs l l′ : List ℕ} → vs ≡ with-head s m schedule N p .results → length vs ≡ N → l′ ≡ sets l 0 vs → Given (asked s m schedule N p) l answer N l′
+      given-results is long left = rw (permitted h) (record { answers = judgement; counts = rw (← is) (sym long); leaves = rw (← is) left })
+
+module _ (s : List ℕ) where
+  pub head-broken : {place : ℕ} → many-at 3 s 0 ≡ Broken place → printed s ≡ refused (refuse-at 10 place)
+  unfolding printed
+  head-broken e = rw e
+
+  pub head-whole : {p : ℕ} → many-at 3 s 0 ≡ All p → (head l : List ℕ) → length head ≡ 3 → l ≡ sets head 0 (values-at 3 s 0) → printed s ≡ asked s (at l 0) (at l 1) (at l 2) p
+  unfolding printed
+  head-whole e head l long read = rw (e, read, sets-whole head _ (values-whole 3 s 0 _ e ∙ sym long))

@@ -1,0 +1,88 @@
+-- What can matter of an input: its first 30,736 bytes. A permitted request is at most 30,735 bytes long, and the one behind them is a
+-- surplus byte.
+use Prim.Native.Nat.{ℕ, zero, suc, _+_, _*_, _/_, _<_, _≤_}
+use mathlib.Core.Path.{_≡_, refl, sym, _∙_, ap, ap₂}
+use mathlib.Core.Bool.{Bool, true, false}
+use mathlib.Core.List.{List, _∷_}
+use native.Mathlib.Omega.{arith}
+use lib.ListN.{length, take}
+use lib.Seq.{length-take-le}
+use lib.Dec.{ltb, leb}
+use borrow.Author.Tests.{ltb-true, lt-leb}
+use Rattle.answer.specs.declared.Answer.{Answer}
+use Rattle.answer.specs.Lengths.{log-of, permitted-range}
+use Rattle.groups.specs.declared.Number.{Number}
+use Rattle.groups.specs.declared.Number.the-variants.{Value, Fault}
+use Rattle.groups.specs.Groups.{number-at}
+use Rattle.groups.specs.Theorems.{number-begun, number-near}
+use Rattle.modular.specs.Verdicts.{offers, permitted-length}
+use Rattle.request.specs.declared.reading.Many.{Many}
+use Rattle.request.specs.declared.reading.Many.the-variants.{All, Broken}
+use Rattle.request.specs.Requests.{behind, many-at, and-behind, values-at, Printed, refused-unless, follow, with-table, with-head, asked, printed}
+
+-- ---- places
+
+clash : {X : Type 0} → _≡_ {A = ℕ} 0 1 → X
+clash h = absurd (omega arith)
+
+-- n numbers take at most 5n bytes.
+many-near : (s : List ℕ) (n p q : ℕ) → many-at n s p ≡ All q → q ≤ p + 5 * n
+unfolding many-at behind
+many-near s zero p q e = let same : p ≡ q = cc e in omega arith
+many-near s (suc n) p q e = by (number-at s p) refl (many-near s n) e
+  where
+    by : (r : Number) → number-at s p ≡ r → ((p′ q′ : ℕ) → many-at n s p′ ≡ All q′ → q′ ≤ p′ + 5 * n) → behind r (many-at n s) ≡ All q → q ≤ p + 5 * suc n
+    by (Value v next) er ih e = let near = number-near s p v next er in let later = ih next q e in omega arith
+    by (Fault place) er ih e = clash (cc e)
+
+-- ---- the beginning of an input, k bytes of it
+
+module _ (s : List ℕ) (k : ℕ) (room : k ≤ length s) where
+  -- Numbers that lie in it.
+  many-begun : (n p : ℕ) → p + 5 * n ≤ k → (many-at n (take k s) p ≡ many-at n s p) × (values-at n (take k s) p ≡ values-at n s p)
+  unfolding many-at values-at behind and-behind
+  many-begun zero p h = (refl, refl)
+  many-begun (suc n) p h = rw (number-begun s k p (omega arith) room) (by (number-at s p) refl (many-begun n))
+    where
+      by : (r : Number) → number-at s p ≡ r → ((q : ℕ) → q + 5 * n ≤ k → (many-at n (take k s) q ≡ many-at n s q) × (values-at n (take k s) q ≡ values-at n s q)) →
+          (behind r (many-at n (take k s)) ≡ behind r (many-at n s)) × (and-behind r (values-at n (take k s)) ≡ and-behind r (values-at n s))
+      by (Value v next) e ih = let near = number-near s p v next e in let rest = ih next (omega arith) in (rest .0, ap (λ (l : List ℕ). v ∷ l) (rest .1))
+      by (Fault place) e ih = (refl, refl)
+
+  follow-same : (many : Many) (f g : ℕ → Printed) → ((q : ℕ) → many ≡ All q → f q ≡ g q) → follow many f ≡ follow many g
+  follow-same (All q) f g h = h q refl
+  follow-same (Broken p) f g h = refl
+
+  unless-same : (b : Bool) (refusal : Answer) (x y : Printed) → (b ≡ true → x ≡ y) → refused-unless b refusal x ≡ refused-unless b refusal y
+  unless-same true refusal x y h = h refl
+  unless-same false refusal x y h = refl
+
+  table-begun : (m schedule N : ℕ) (table : List ℕ) (q : ℕ) → q + 5 * N < k → with-table (take k s) m schedule N table q ≡ with-table s m schedule N table q
+  unfolding with-table
+  table-begun m schedule N table q h =
+      let same = many-begun N q (omega arith) in
+      let long : length (take k s) ≡ k = length-take-le k s room in
+      rw (same .0, same .1)
+      (follow-same (many-at N s q) _ _
+      (λ end e. let near = many-near s N q end e in rw (lt-leb (length (take k s)) end (omega arith), lt-leb (length s) end (omega arith)) refl))
+
+  head-begun : (m schedule N p : ℕ) → p + 5 * (N / 2) + 5 * N < k → with-head (take k s) m schedule N p ≡ with-head s m schedule N p
+  unfolding with-head
+  head-begun m schedule N p h =
+      let same = many-begun (N / 2) p (omega arith) in
+      rw (same .0, same .1)
+      (follow-same (many-at (N / 2) s p) _ _ (λ q e. let near = many-near s (N / 2) p q e in table-begun m schedule N _ q (omega arith)))
+
+  asked-begun : (m schedule N p : ℕ) → p ≤ 15 → 30736 ≤ k → asked (take k s) m schedule N p ≡ asked s m schedule N p
+  unfolding asked
+  asked-begun m schedule N p h l =
+      unless-same (offers schedule) _ _ _
+      (λ o. unless-same (permitted-length N) _ _ _
+      (λ e. let range = permitted-range N (ltb-true 0 (log-of N) e) in head-begun m schedule N p (omega arith)))
+
+  -- What lies behind the first 30,736 bytes changes nothing.
+  pub printed-begun : 30736 ≤ k → printed (take k s) ≡ printed s
+  unfolding printed
+  printed-begun l =
+      let same = many-begun 3 0 (omega arith) in
+      rw (same .0, same .1) (follow-same (many-at 3 s 0) _ _ (λ p e. asked-begun _ _ _ p (many-near s 3 0 p e) l))
