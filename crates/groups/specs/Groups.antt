@@ -1,10 +1,11 @@
 -- Numbers "in groups of seven bits, low group first, top bit set on all but the last; shortest form only, below 2^32".
-use Prim.Native.Nat.{ℕ, zero, suc, _+_, _-_, _*_, _/_, _%_, _^_}
+use Prim.Native.Nat.{ℕ, zero, suc, _+_, _-_, _*_, _^_}
 use mathlib.Core.Bool.{Bool, false, cond}
 use mathlib.Core.List.{List, [], _∷_}
 use lib.ListN.{length}
 use lib.Dec.{ltb, eqb}
 use Rattle.answer.specs.Lists.{at}
+use Rattle.groups.specs.Bases.{in-base}
 use Rattle.groups.specs.declared.Number.{Number}
 use Rattle.groups.specs.declared.Number.the-variants.{Value, Fault}
 
@@ -29,10 +30,9 @@ reading s p (suc k) i low =
 abbrev pub number-at : List ℕ → ℕ → Number
 number-at s p = reading s p 5 0 0
 
--- The shortest form of v, of at most k bytes and one.
-unfoldable pub groups : ℕ → ℕ → List ℕ
-groups zero v = v ∷ []
-groups (suc k) v = cond (ltb v 128) (v ∷ []) ((v % 128 + 128) ∷ groups k (v / 128))
+-- The shortest form of v, of at most k bytes and one: the top bit is set on all but the last.
+abbrev pub groups : ℕ → ℕ → List ℕ
+groups = in-base 128 (λ v. v ∷ []) (λ group rest. (group + 128) ∷ rest)
 
 -- The shortest form of a number below 2^32.
 abbrev pub bytes-of : ℕ → List ℕ

@@ -12,6 +12,7 @@ use lib.Seq.{getD-drop, getD-take, drop-drop, drop-cons, length-take-le}
 use lib.Dec.{ltb, eqb}
 use borrow.Author.Tests.{lt-ltb, le-ltb, ltb-true, ltb-false, eqb-true, eqb-false, ne-eqb, eq-eqb}
 use Rattle.answer.specs.Lists.{at}
+use Rattle.groups.specs.Bases.{base-one, base-more, base-every, base-less, base-enough}
 use Rattle.groups.specs.declared.Number.{Number}
 use Rattle.groups.specs.declared.Number.the-variants.{Value, Fault}
 use Rattle.groups.specs.Groups.{overlong, whole, reading, number-at, groups, bytes-of}
@@ -60,46 +61,24 @@ split : (w u : ℕ) → w * u ≡ w * (u % 128) + 128 * w * (u / 128)
 split w u = omega (arith, ap (λ (n : ℕ). w * n) (sym (div-add-mod' u 128)))
 
 groups-one : (k v : ℕ) → v < 128 → groups k v ≡ v ∷ []
-unfolding groups
-groups-one zero v h = refl
-groups-one (suc k) v h = simp (lt-ltb v 128 h)
+groups-one = base-one 128 _ _
 
 groups-more : (k v : ℕ) → 128 ≤ v → groups (suc k) v ≡ (v % 128 + 128) ∷ groups k (v / 128)
-unfolding groups
-groups-more k v h = simp (le-ltb v 128 h)
+groups-more = base-more 128 _ _
 
--- A group less to make.
 less : (k v : ℕ) → v < 128 ^ suc k → v / 128 < 128 ^ k
-less k v h = let l : v < 128 * 128 ^ k = rw pow-succ' at h in omega arith
-
--- A byte more than there are groups changes nothing.
-enough : (k v : ℕ) → v < 128 ^ suc k → groups (suc k) v ≡ groups k v
-enough zero v h = let l : v < 128 = omega arith in groups-one 1 v l ∙ sym (groups-one 0 v l)
-enough (suc k) v h = by (decLt v 128) (enough k (v / 128) (less (suc k) v h))
-  where
-    by : Dec (v < 128) → groups (suc k) (v / 128) ≡ groups k (v / 128) → groups (suc (suc k)) v ≡ groups (suc k) v
-    by (yes l) e = groups-one (suc (suc k)) v l ∙ sym (groups-one (suc k) v l)
-    by (no l) e = groups-more (suc k) v (omega arith) ∙ rw e (sym (groups-more k v (omega arith)))
+less k v = base-less 128 k v (omega arith)
 
 -- A number takes at least one byte, and five at most.
-groups-few : (k v : ℕ) → (1 ≤ length (groups k v)) × (length (groups k v) ≤ suc k)
-unfolding groups
-groups-few zero v = (omega arith, omega arith)
-groups-few (suc k) v = by (decLt v 128) (groups-few k (v / 128))
-  where
-    by : Dec (v < 128) → (1 ≤ length (groups k (v / 128))) × (length (groups k (v / 128)) ≤ suc k) → (1 ≤ length (groups (suc k) v)) × (length (groups (suc k) v) ≤ suc (suc k))
-    by (yes l) r = rw (groups-one (suc k) v l) (omega arith, omega arith)
-    by (no l) r = rw (groups-more k v (omega arith)) (omega arith, omega arith)
-
 pub bytes-few : (v : ℕ) → (1 ≤ length (bytes-of v)) × (length (bytes-of v) ≤ 5)
-bytes-few v = groups-few 4 v
+bytes-few v = base-every 128 _ _ (λ k l. (1 ≤ length l) × (length l ≤ suc k)) (λ k v. (omega arith, omega arith)) (λ k d l r. (omega arith, omega arith)) 4 v
 
 -- The shortest form by its first byte.
 pub bytes-one : (v : ℕ) → v < 128 → bytes-of v ≡ v ∷ []
 bytes-one v h = groups-one 4 v h
 
 pub bytes-more : (v : ℕ) → 128 ≤ v → v < 34359738368 → bytes-of v ≡ (v % 128 + 128) ∷ bytes-of (v / 128)
-bytes-more v h l = groups-more 3 v h ∙ rw (enough 3 (v / 128) (omega arith))
+bytes-more v h l = groups-more 3 v h ∙ rw (base-enough 128 (λ v. v ∷ []) (λ group rest. (group + 128) ∷ rest) (omega arith) 3 (v / 128) (omega arith))
 
 -- ---- what is written is read back
 

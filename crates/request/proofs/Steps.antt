@@ -7,20 +7,17 @@ use native.Mathlib.Nat.{zero-add}
 use native.Mathlib.Omega.{arith}
 use lib.ListN.{length, drop}
 use lib.Seq.{sets, sets-eq, drop-length}
-use lib.Dec.{eqb, leb}
+use lib.Dec.{eqb}
 use borrow.Author.Tests.{le-leb, lt-leb, eq-eqb}
 use Rattle.answer.specs.declared.Answer.{Answer}
 use Rattle.answer.specs.Choice.{refuse, refuse-at, done-left, refused-left}
 use Rattle.answer.specs.Lists.{at}
-use Rattle.groups.specs.declared.Number.{Number}
-use Rattle.groups.specs.declared.Number.the-variants.{Value, Fault}
-use Rattle.groups.specs.Groups.{number-at}
 use Rattle.modular.specs.Verdicts.{offers, permitted-length, through-scratch, scratch-fits, lent-verdict, rest-verdict, transform-verdict}
 use Rattle.modular.specs.Outcomes.{TransformOutcome, transformed}
-use Rattle.request.specs.declared.reading.Many.{Many}
 use Rattle.request.specs.declared.reading.Many.the-variants.{All, Broken}
-use Rattle.request.specs.Requests.{Printed, behind, many-at, and-behind, values-at, refused, refused-unless, follow, judged, with-both, with-table, with-head, asked, printed}
+use Rattle.request.specs.Requests.{Printed, many-at, values-at, refused, judged, with-both, with-table, with-head, asked, printed}
 use Rattle.request.specs.Outcomes.{Given}
+use Rattle.request.specs.Theorems.{values-whole, head-every}
 
 abbrev pub answered : Printed → Answer
 answered r = r .answer
@@ -30,19 +27,6 @@ pub given-refused : {r : Printed} {answer : Answer} {l : List ℕ} → r ≡ ref
 given-refused e = rw e (record { answers = refl; counts = refl; leaves = refl })
 
 -- ---- several numbers
-
--- All n of them are there.
-pub values-whole : (n : ℕ) (s : List ℕ) (p q : ℕ) → many-at n s p ≡ All q → length (values-at n s p) ≡ n
-unfolding many-at values-at behind and-behind
-values-whole zero s p q e = refl
-values-whole (suc n) s p q e = by (number-at s p) (values-whole n s) e
-  where
-    by : (r : Number) → ((p′ q′ : ℕ) → many-at n s p′ ≡ All q′ → length (values-at n s p′) ≡ n) → behind r (many-at n s) ≡ All q → length (and-behind r (values-at n s)) ≡ suc n
-    by (Value v next) ih e = ap suc (ih next q e)
-    by (Fault place) ih e = absurd (clash (cc e))
-      where
-        clash : _≡_ {A = ℕ} 0 1 → ⊥
-        clash h = omega arith
 
 -- Numbers at the start of a list, and as many as there are places.
 pub sets-front : (l vs : List ℕ) (n : ℕ) → length vs ≡ n → n ≤ length l → sets l 0 vs ≡ vs ++ drop n l
@@ -115,24 +99,10 @@ module _ (s : List ℕ) (m schedule p : ℕ) (table samples : List ℕ) (half : 
 
 -- ---- refusals have no results
 
-abbrev Empty : Printed → Type 0
-Empty r = (r .answer .number ≡ 0 → ⊥) → r .results ≡ []
-
-empty-unless : (b : Bool) (refusal : Answer) (next : Printed) → Empty next → Empty (refused-unless b refusal next)
-empty-unless true refusal next h = h
-empty-unless false refusal next h = λ z. refl
-
-empty-follow : (many : Many) (next : ℕ → Printed) → ((q : ℕ) → Empty (next q)) → Empty (follow many next)
-empty-follow (All q) next h = h q
-empty-follow (Broken p) next h = λ z. refl
-
-empty-head : (s : List ℕ) (m schedule N p : ℕ) → Empty (with-head s m schedule N p)
-unfolding with-head with-table
+empty-head : (s : List ℕ) (m schedule N p : ℕ) → (with-head s m schedule N p .answer .number ≡ 0 → ⊥) → with-head s m schedule N p .results ≡ []
 empty-head s m schedule N p =
-    empty-follow (many-at (N / 2) s p) _
-    (λ q. empty-follow (many-at N s q) _
-    (λ end. empty-unless (leb (length s) end) _ _
-    (λ z. refused-left (judged m (values-at (N / 2) s p) (values-at N s q)) _ [] z)))
+    head-every (λ r. (r .answer .number ≡ 0 → ⊥) → r .results ≡ []) (λ a z. refl)
+    s m schedule N p (λ table samples long half z. refused-left (judged m table samples) _ [] z)
 
 -- ---- the whole request
 

@@ -17,6 +17,6 @@ pub record Given (what : Printed) (results : List ℕ) (answer : Answer) (count 
 abbrev pub RequestOutcome : List ℕ → List ℕ → Answer → ℕ → List ℕ → Type 0
 RequestOutcome input = Given (printed input)
 
-pub request-functional : {input results : List ℕ} {a b : Answer} {k l : ℕ} {x y : List ℕ} →
+pub request-functional : (input : List ℕ) {results : List ℕ} {a b : Answer} {k l : ℕ} {x y : List ℕ} →
     RequestOutcome input results a k x → RequestOutcome input results b l y → (a ≡ b) × (k ≡ l) × (x ≡ y)
-request-functional h l = (h .answers ∙ sym (l .answers), h .counts ∙ sym (l .counts), h .leaves ∙ sym (l .leaves))
+request-functional input h l = (h .answers ∙ sym (l .answers), h .counts ∙ sym (l .counts), h .leaves ∙ sym (l .leaves))

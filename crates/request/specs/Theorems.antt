@@ -1,29 +1,42 @@
--- What can matter of an input: its first 30,736 bytes. A permitted request is at most 30,735 bytes long, and the one behind them is a
--- surplus byte.
+-- What holds of whatever `dft` prints, and what can matter of its input: the first 30,736 bytes. A permitted request is at most 30,735
+-- bytes long, and the one behind them is a surplus byte.
 use Prim.Native.Nat.{ℕ, zero, suc, _+_, _*_, _/_, _<_, _≤_}
 use mathlib.Core.Path.{_≡_, refl, sym, _∙_, ap, ap₂}
-use mathlib.Core.Bool.{Bool, true, false}
-use mathlib.Core.List.{List, _∷_}
+use mathlib.Core.Bool.{Bool, true, false, cond}
+use mathlib.Core.List.{List, [], _∷_}
 use native.Mathlib.Omega.{arith}
 use lib.ListN.{length, take}
 use lib.Seq.{length-take-le}
-use lib.Dec.{ltb, leb}
+use lib.Dec.{leb, eqb}
 use borrow.Author.Tests.{ltb-true, lt-leb}
 use Rattle.answer.specs.declared.Answer.{Answer}
+use Rattle.answer.specs.Choice.{refuse-at}
+use Rattle.answer.specs.Lists.{length-tabulate}
 use Rattle.answer.specs.Lengths.{log-of, permitted-range}
 use Rattle.groups.specs.declared.Number.{Number}
 use Rattle.groups.specs.declared.Number.the-variants.{Value, Fault}
 use Rattle.groups.specs.Groups.{number-at}
 use Rattle.groups.specs.Theorems.{number-begun, number-near}
 use Rattle.modular.specs.Verdicts.{offers, permitted-length}
+use Rattle.modular.specs.Outcomes.{transformed}
 use Rattle.request.specs.declared.reading.Many.{Many}
 use Rattle.request.specs.declared.reading.Many.the-variants.{All, Broken}
-use Rattle.request.specs.Requests.{behind, many-at, and-behind, values-at, Printed, refused-unless, follow, with-table, with-head, asked, printed}
-
--- ---- places
+use Rattle.request.specs.Requests.{behind, many-at, and-behind, values-at, Printed, refused, refused-unless, follow, judged, with-both, with-table, with-head, asked, printed}
 
 clash : {X : Type 0} → _≡_ {A = ℕ} 0 1 → X
 clash h = absurd (omega arith)
+
+-- ---- several numbers
+
+-- All n of them are there.
+pub values-whole : (n : ℕ) (s : List ℕ) (p q : ℕ) → many-at n s p ≡ All q → length (values-at n s p) ≡ n
+unfolding many-at values-at behind and-behind
+values-whole zero s p q e = refl
+values-whole (suc n) s p q e = by (number-at s p) (values-whole n s) e
+  where
+    by : (r : Number) → ((p′ q′ : ℕ) → many-at n s p′ ≡ All q′ → length (values-at n s p′) ≡ n) → behind r (many-at n s) ≡ All q → length (and-behind r (values-at n s)) ≡ suc n
+    by (Value v next) ih e = ap suc (ih next q e)
+    by (Fault place) ih e = clash (cc e)
 
 -- n numbers take at most 5n bytes.
 many-near : (s : List ℕ) (n p q : ℕ) → many-at n s p ≡ All q → q ≤ p + 5 * n
@@ -34,6 +47,55 @@ many-near s (suc n) p q e = by (number-at s p) refl (many-near s n) e
     by : (r : Number) → number-at s p ≡ r → ((p′ q′ : ℕ) → many-at n s p′ ≡ All q′ → q′ ≤ p′ + 5 * n) → behind r (many-at n s) ≡ All q → q ≤ p + 5 * suc n
     by (Value v next) er ih e = let near = number-near s p v next er in let later = ih next q e in omega arith
     by (Fault place) er ih e = clash (cc e)
+
+-- ---- cases
+
+follow-same : (many : Many) (f g : ℕ → Printed) → ((q : ℕ) → many ≡ All q → f q ≡ g q) → follow many f ≡ follow many g
+follow-same (All q) f g h = h q refl
+follow-same (Broken p) f g h = refl
+
+unless-same : (b : Bool) (refusal : Answer) (x y : Printed) → (b ≡ true → x ≡ y) → refused-unless b refusal x ≡ refused-unless b refusal y
+unless-same true refusal x y h = h refl
+unless-same false refusal x y h = refl
+
+-- What holds of every refusal, and of what follows.
+module _ (P : Printed → Type 0) (none : (answer : Answer) → P (refused answer)) where
+  follow-every : (many : Many) (next : ℕ → Printed) → ((q : ℕ) → many ≡ All q → P (next q)) → P (follow many next)
+  follow-every (All q) next h = h q refl
+  follow-every (Broken p) next h = none (refuse-at 10 p)
+
+  unless-every : (b : Bool) (refusal : Answer) (next : Printed) → (b ≡ true → P next) → P (refused-unless b refusal next)
+  unless-every true refusal next h = h refl
+  unless-every false refusal next h = none refusal
+
+  -- And of a table and samples of these lengths.
+  pub head-every : (s : List ℕ) (m schedule N p : ℕ) → ((table samples : List ℕ) → length samples ≡ N → length table ≡ N / 2 → P (with-both m schedule table samples)) → P (with-head s m schedule N p)
+  unfolding with-head with-table
+  head-every s m schedule N p h =
+      follow-every (many-at (N / 2) s p) _
+      (λ q e. follow-every (many-at N s q) _
+      (λ end e′. unless-every (leb (length s) end) _ _
+      (λ t. h (values-at (N / 2) s p) (values-at N s q) (values-whole N s q end e′) (values-whole (N / 2) s p q e))))
+
+  pub printed-every : ((m schedule : ℕ) (table samples : List ℕ) → offers schedule ≡ true → permitted-length (length samples) ≡ true → length table ≡ length samples / 2 → P (with-both m schedule table samples)) →
+      (s : List ℕ) → P (printed s)
+  unfolding printed asked
+  printed-every h s =
+      follow-every (many-at 3 s 0) _
+      (λ p e. unless-every (offers _) _ _
+      (λ o. unless-every (permitted-length _) _ _
+      (λ l. head-every s _ _ _ p (λ table samples long half. h _ _ table samples o (rw long l) (rw long half)))))
+
+-- There are at most 4,096 results.
+pub results-few : (s : List ℕ) → length (printed s .results) ≤ 4096
+results-few =
+    printed-every (λ r. length (r .results) ≤ 4096) (λ a. omega arith)
+    (λ m schedule table samples o l half. either (eqb (judged m table samples .number) 0) (transformed schedule samples m table)
+    (let range = permitted-range (length samples) (ltb-true 0 (log-of (length samples)) l) in rw length-tabulate (range .1)))
+  where
+    either : (t : Bool) (l : List ℕ) → length l ≤ 4096 → length (cond t l []) ≤ 4096
+    either true l h = h
+    either false l h = omega arith
 
 -- ---- the beginning of an input, k bytes of it
 
@@ -48,14 +110,6 @@ module _ (s : List ℕ) (k : ℕ) (room : k ≤ length s) where
           (behind r (many-at n (take k s)) ≡ behind r (many-at n s)) × (and-behind r (values-at n (take k s)) ≡ and-behind r (values-at n s))
       by (Value v next) e ih = let near = number-near s p v next e in let rest = ih next (omega arith) in (rest .0, ap (λ (l : List ℕ). v ∷ l) (rest .1))
       by (Fault place) e ih = (refl, refl)
-
-  follow-same : (many : Many) (f g : ℕ → Printed) → ((q : ℕ) → many ≡ All q → f q ≡ g q) → follow many f ≡ follow many g
-  follow-same (All q) f g h = h q refl
-  follow-same (Broken p) f g h = refl
-
-  unless-same : (b : Bool) (refusal : Answer) (x y : Printed) → (b ≡ true → x ≡ y) → refused-unless b refusal x ≡ refused-unless b refusal y
-  unless-same true refusal x y h = h refl
-  unless-same false refusal x y h = refl
 
   table-begun : (m schedule N : ℕ) (table : List ℕ) (q : ℕ) → q + 5 * N < k → with-table (take k s) m schedule N table q ≡ with-table s m schedule N table q
   unfolding with-table

@@ -1,0 +1,3 @@
+-- What `dft` prints.
+pub mod Lines
+pub mod Outcomes
