@@ -1,6 +1,7 @@
 // What `dft` prints: "number and place and, on success, the N results in buffer order, with single spaces and a newline". The line is
 // made from its end, so that no digit is counted before it is written.
 use answer::Answer;
+use libc::STDOUT_FILENO;
 ghost use mathlib.Core.Path.{_≡_};
 ghost use mathlib.Core.List.{_∷_, [], _++_};
 ghost use Prim.Native.Nat.{_+_, _*_, _≤_};
@@ -12,14 +13,34 @@ ghost use Rattle.line.specs.Outcomes.{Put, LineOutcome};
 pub fn respond(input: &[u8], out: &mut [u8; 86058]) -> usize
     ensures { λ r. ⌜ LineOutcome (now (input .entry)) (now (out .entry)) r (now (out .exit)) ⌝ }
 {
-    let mut results = space();
+    let mut results = results_space();
     let reply = request::request(input, &mut results);
     let answer = reply.answer;
     put_line(out, answer, &results, reply.count)
 }
 
-// Zeros, behind a contract that says only how many.
-fn space() -> [u32; 4096]
+// Writes the answer to the request to standard output, at once.
+pub fn print(input: &[u8]) {
+    let mut out = space();
+    let start = respond(input, &mut out);
+    write_from(&out, start);
+}
+
+// Writes what stands from a place on.
+fn write_from(text: &[u8], start: usize)
+    requires { ⌜ start ≤ length (now text) ⌝ }
+{
+    io::write_all(STDOUT_FILENO, &text[start..]);
+}
+
+// Zeros, behind a contract that says only how many: memory for a line, and for results.
+fn space() -> [u8; 86058]
+    ensures { λ r. ⌜ 86058 ≡ length r ⌝ }
+{
+    [0; 86058]
+}
+
+fn results_space() -> [u32; 4096]
     ensures { λ r. ⌜ 4096 ≡ length r ⌝ }
 {
     [0; 4096]
