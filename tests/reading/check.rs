@@ -264,7 +264,10 @@ fn residue_refusals(checks: &mut Checks) {
     for m in [0, 1, 2, 4, 1 << 31, (1 << 31) + 1, u32::MAX] {
         refusals(checks, (2, &data, m, &[9], 0), [2; 4], 0);
     }
-    checks.same("reversal of 3", reverse(&mut [1, 2, 3]), refused(1, 0));
+    for length in [0, 1, 3, 8192] {
+        let answer = reverse(&mut vec![0; length]);
+        checks.same("reversal refused", answer, refused(1, 0));
+    }
     fill_refusals(checks);
 }
 
@@ -385,8 +388,10 @@ fn fixed_refusals(checks: &mut Checks) {
         checks.same("fixed acceptance", fixed_accept(table), wanted);
     }
     checks.same("fill 8192", fixed_fill(&mut [0; 8192]), refused(3, 0));
-    checks.same("reverse 6", fixed_reverse(&mut [0; 6]), refused(1, 0));
-    checks.same("reverse 5", fixed_reverse(&mut [0; 5]), refused(1, 0));
+    for length in [0, 2, 5, 6, 16384] {
+        let answer = fixed_reverse(&mut vec![0; length]);
+        checks.same("fixed reversal refused", answer, refused(1, 0));
+    }
 }
 
 fn program(checks: &mut Checks) {

@@ -127,8 +127,12 @@ fn spelt(schedule: u32, m: u32, table: &[u32], samples: &[u32]) -> Words {
 }
 
 impl Requests {
+    /// Each input stands once.
     fn add(&mut self, input: impl Into<Vec<u8>>) {
-        self.inputs.push(input.into());
+        let input = input.into();
+        if !self.inputs.contains(&input) {
+            self.inputs.push(input);
+        }
     }
 
     /// An input in which everything is right, with random samples.
@@ -141,7 +145,10 @@ impl Requests {
     fn lengths(&mut self) {
         for n in 1..12 {
             for schedule in 1..=5 {
-                let root = house_root((n + schedule as usize) % 3, n);
+                let root = match n {
+                    10.. => searched_root(40961, n),
+                    _ => house_root((n + schedule as usize) % 3, n),
+                };
                 let words = self.words(schedule, root);
                 self.add(words.concat());
             }
@@ -285,22 +292,28 @@ impl Requests {
             let table = powers(m, x, n);
             for position in table_positions(n) {
                 let right = table[position - 3];
-                let mut wrong = vec![right + m, 0];
-                if n < 12 {
-                    wrong.extend([right - 1, right + 1, m, m + 1, u32::MAX]);
-                }
-                for value in wrong {
+                let wrong = [right + m, 0, right - 1, right + 1, m, m + 1, u32::MAX];
+                for &value in &wrong[..if n < 12 { 7 } else { 1 }] {
                     self.add(changed(&words, &[(position, &number(value))]));
                 }
             }
-            // The root squared, its negative, 1 and 2 do not close.
-            let square = power(x, 2, m);
-            for base in [square, m - square, 1, 2] {
+            // From N = 4 on, 1 and the root squared do not close.
+            for base in [1, power(x, 2, m)] {
                 let samples = self.random.residues(1 << n, m);
                 self.add(spelt(schedule, m, &powers(m, base, n), &samples).concat());
             }
+            if n > 1 {
+                // The beginning of a table for the shorter table.
+                let samples = self.random.residues(1 << (n - 1), m);
+                let beginning = &table[..table.len() / 2];
+                self.add(spelt(schedule, m, beginning, &samples).concat());
+            }
         }
-        self.add([5, 1, 4, 1, 4, 1, 2, 3, 4]);
+        for m in [15, 65] {
+            for x in 0..=m {
+                self.add(spelt(1, m, &[1, x], &[1, 2, 3, 4]).concat());
+            }
+        }
     }
 
     /// 5 at the first, a middle and the last sample, and at two of them.
@@ -372,8 +385,8 @@ impl Requests {
         let mut zeros = [number(5), number(5), number(4096)].concat();
         zeros.resize(70_000, 0);
         self.add(zeros);
-        self.add([0; 70_000]);
-        self.add([0x80; 35_000]);
+        self.add([0; 700]);
+        self.add([0x80; 700]);
     }
 
     /// A byte of a right input replaced, left out or put in, at random.
