@@ -91,8 +91,8 @@ fn near_largest(n: usize) -> Root {
         let x = power(3, (m as usize - 1) >> n, m);
         (power(x, 1 << (n - 1), m) == m - 1).then_some((m, x, n))
     };
-    let moduli = (1..LARGEST).rev().filter(|m| m % 4096 == 1);
-    moduli.map(found).find_map(|root| root).expect("a modulus")
+    let mut moduli = (1..LARGEST).rev().filter(|m| m % 4096 == 1);
+    moduli.find_map(found).expect("a modulus")
 }
 
 fn number(value: u32) -> Vec<u8> {
@@ -100,24 +100,25 @@ fn number(value: u32) -> Vec<u8> {
 }
 
 /// The words with some of them spelt otherwise.
-fn changed(words: &Words, changes: &[(usize, &[u8])]) -> Vec<u8> {
-    let mut words = words.clone();
+fn changed(words: &[Vec<u8>], changes: &[(usize, &[u8])]) -> Vec<u8> {
+    let mut words = words.to_vec();
     for (position, spelling) in changes {
         words[*position] = spelling.to_vec();
     }
     words.concat()
 }
 
-/// The positions of the first, a middle and the last entry of the table.
-fn table_positions(n: usize) -> [usize; 3] {
-    let half = 1 << (n - 1);
-    [3, 3 + half / 2, 3 + half - 1]
+/// The first, a middle and the last position of so many from a start on.
+fn positions(start: usize, count: usize) -> [usize; 3] {
+    [start, start + count / 2, start + count - 1]
 }
 
-/// The positions of the first, a middle and the last sample.
+fn table_positions(n: usize) -> [usize; 3] {
+    positions(3, 1 << (n - 1))
+}
+
 fn sample_positions(n: usize) -> [usize; 3] {
-    let half = 1 << (n - 1);
-    [3 + half, 3 + 2 * half, 3 + 3 * half - 1]
+    positions(3 + (1 << (n - 1)), 1 << n)
 }
 
 fn spelt(schedule: u32, m: u32, table: &[u32], samples: &[u32]) -> Words {
@@ -169,18 +170,10 @@ impl Requests {
 
     /// Small, composite and large moduli; samples all 0 and all m - 1 too.
     fn moduli(&mut self) {
-        let mut roots: Vec<Root> = vec![(3, 2, 1), (15, 14, 1), (LARGEST, LARGEST - 1, 1)];
-        roots.extend([(5, 2, 2), (5, 3, 2), (LARGEST - 2, LARGEST - 3, 1)]);
-        for (m, n) in [
-            (25, 2),
-            (65, 2),
-            (1649, 4),
-            (17 * 257, 4),
-            (289, 4),
-            (257, 8),
-        ] {
-            roots.push(searched_root(m, n));
-        }
+        let mut roots = vec![(3, 2, 1), (15, 14, 1), (5, 2, 2), (5, 3, 2)];
+        roots.extend([LARGEST, LARGEST - 2].map(|m| (m, m - 1, 1)));
+        let searched = [(25, 2), (65, 2), (1649, 4), (4369, 4), (289, 4), (257, 8)];
+        roots.extend(searched.map(|(m, n)| searched_root(m, n)));
         roots.extend((2..=5).map(power_and_one));
         roots.extend((2..=6).map(near_largest));
         for (m, x, n) in roots {
@@ -232,35 +225,17 @@ impl Requests {
     /// 7 and 1, with a right rest, a broken rest and none.
     fn refused_at_once(&mut self) {
         let words = self.words(1, house_root(2, 2));
-        let schedules = [0, 6, 7, 127, 128, 257, 65537, (1 << 31) + 1, u32::MAX];
+        let schedules = [0, 6, 7, 127, 128, 257, 65537, 2147483649, 4294967295];
         let lengths = [
-            0,
-            1,
-            3,
-            5,
-            6,
-            7,
-            12,
-            255,
-            258,
-            4095,
-            4097,
-            8192,
-            65540,
-            1 << 31,
-            u32::MAX,
+            0, 1, 3, 5, 6, 7, 12, 255, 258, 4095, 4097, 8192, 65540, 2147483648, 4294967295,
         ];
-        let at_once = schedules
-            .map(|v| (1, v))
-            .into_iter()
-            .chain(lengths.map(|v| (2, v)));
-        for (position, value) in at_once {
-            let spelling = number(value);
-            let whole = changed(&words, &[(position, &spelling)]);
-            let head: usize = words[..3].iter().map(Vec::len).sum::<usize>() - 1 + spelling.len();
-            self.add(&whole[..head]);
-            self.add([&whole[..head], BROKEN[0]].concat());
-            self.add(whole);
+        let schedules = schedules.iter().map(|&v| (1, v));
+        for (position, value) in schedules.chain(lengths.iter().map(|&v| (2, v))) {
+            let change: &[(usize, &[u8])] = &[(position, &number(value))];
+            let head = changed(&words[..3], change);
+            self.add([&head, BROKEN[0]].concat());
+            self.add(head);
+            self.add(changed(&words, change));
         }
         for length in [0, 3, 8192] {
             self.add(changed(&words, &[(1, &[6]), (2, &number(length))]));
