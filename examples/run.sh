@@ -1,0 +1,8 @@
+#!/bin/sh
+# Builds dft, runs it on document 01's example and on a scan of 4,096 points.
+cd "$(dirname "$0")/.." || exit 2
+rt check dft >/dev/null || exit 1
+echo 'modulo 5, schedule 1, table 1 2, samples 1 2 3 4:'
+echo 5 1 4 1 2 1 2 3 4 | sh examples/numbers.sh pack | sh examples/dft.sh
+echo 'a scan of 4,096 points (number, place, and the first of the 4,096 results):'
+sh examples/scan.sh | sh examples/numbers.sh pack | sh examples/dft.sh | cut -d ' ' -f 1-8
