@@ -13,7 +13,7 @@ ghost use Rattle.line.specs.Outcomes.{Put, LineOutcome};
 pub fn respond(input: &[u8], out: &mut [u8; 86058]) -> usize
     ensures { λ r. ⌜ LineOutcome (now (input .entry)) (now (out .entry)) r (now (out .exit)) ⌝ }
 {
-    let mut results = results_space();
+    let mut results = request::space();
     let reply = request::request(input, &mut results);
     let answer = reply.answer;
     put_line(out, answer, &results, reply.count)
@@ -27,27 +27,21 @@ pub fn print(input: &[u8]) {
 }
 
 // Writes what stands from a place on.
-fn write_from(text: &[u8], start: usize)
+pub fn write_from(text: &[u8], start: usize)
     requires { ⌜ start ≤ length (now text) ⌝ }
 {
     io::write_all(STDOUT_FILENO, &text[start..]);
 }
 
-// Zeros, behind a contract that says only how many: memory for a line, and for results.
+// Zeros, behind a contract that says only how many: memory for a line.
 fn space() -> [u8; 86058]
     ensures { λ r. ⌜ 86058 ≡ length r ⌝ }
 {
     [0; 86058]
 }
 
-fn results_space() -> [u32; 4096]
-    ensures { λ r. ⌜ 4096 ≡ length r ⌝ }
-{
-    [0; 4096]
-}
-
 // Writes the whole line, of the first `count` results, at the end of out.
-fn put_line(out: &mut [u8], answer: Answer, results: &[u32], count: usize) -> usize
+pub fn put_line(out: &mut [u8], answer: Answer, results: &[u32], count: usize) -> usize
     requires { ⌜ (count ≤ length (now results)) × (42 + 21 * count ≤ length (now out)) ⌝ }
     ensures { λ r. ⌜ Put (line (record { answer = answer; results = take count (now (results .entry)) })) (length (now (out .entry))) (now (out .entry))
         r (now (out .exit)) ⌝ }

@@ -1,3 +1,3 @@
 -- Laws that serve the proofs of the request.
-pub mod Numbers
+pub mod Filling
 pub mod Steps

@@ -95,14 +95,14 @@ fn within(
     )
 }
 
-// Zeros, behind a contract that says only how many.
+// Zeros, behind contracts that say only how many: memory for a table, and for samples or results.
 fn half_space() -> [u32; 2048]
     ensures { λ r. ⌜ 2048 ≡ length r ⌝ }
 {
     [0; 2048]
 }
 
-fn space() -> [u32; 4096]
+pub fn space() -> [u32; 4096]
     ensures { λ r. ⌜ 4096 ≡ length r ⌝ }
 {
     [0; 4096]

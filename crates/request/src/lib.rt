@@ -4,3 +4,6 @@ mod reading;
 
 pub use answering::Reply;
 pub use answering::request;
+pub use answering::space;
+pub use reading::Many;
+pub use reading::numbers;

@@ -4,7 +4,7 @@ use native.Mathlib.Omega.{arith}
 use mathlib.Core.Path.{sym, _∙_}
 use Prim.Native.Nat.{_-_}
 use lib.ListN.{length}
-use Rattle.request.proofs.Numbers.{Filling, filling-none, filling-all, filled-all, filling-more, filling-broken, filled-broken}
+use Rattle.request.proofs.Filling.{Filling, filling-none, filling-all, filled-all, filling-more, filling-broken, filled-broken}
 use Rattle.request.proofs.reading.numbers.Statement.{statement}
 use Rattle.request.proofs.reading.numbers.Tie as tie
 use Rattle.request.proofs.reading.numbers.Reads as reads

@@ -1,9 +1,12 @@
-// Many requests in one run. Standard input is records, however many: a length in groups of seven bits, and as many bytes. Each is
-// answered as `dft` would print it, on a line of its own. It stops where a record is broken, not whole, or longer than its memory.
+// Many calls in one run, a line for each. Standard input is records, however many, in groups of seven bits. A record opens with the call:
+// 0 is a request of `dft`, as its length and its bytes; 1 to 4 are the calls in fixed point (`fixed_calls`). It stops at the end, and where a
+// record is broken or longer than its memory.
+mod fixed_calls;
+
 use groups::Number;
 use libc::STDIN_FILENO;
 ghost use mathlib.Core.Path.{_≡_};
-ghost use Prim.Native.Nat.{_+_, _≤_};
+ghost use Prim.Native.Nat.{_≤_};
 ghost use lib.ListN.{length};
 
 fn main() {
@@ -64,28 +67,41 @@ fn answer_all(held: &[u8]) -> usize
         if next <= p {
             return p;
         }
+        if held.len() < next {
+            return p;
+        }
         p = next;
     }
     p
 }
 
-// Answers the record at place p, and answers the place behind it; that is p itself where there is no whole one.
-fn answer_one(held: &[u8], p: usize) -> usize
-    requires { ⌜ p ≤ length (now held) ⌝ }
-    ensures { λ r. ⌜ r ≤ length (now (held .entry)) ⌝ }
-{
+// Answers the record at place p, and answers the place behind it; that is 0 where there is no whole one.
+fn answer_one(held: &[u8], p: usize) -> usize {
+    match groups::number_at(held, p) {
+        Number::Value(call, q) => {
+            if call == 0 {
+                return requested(held, q);
+            }
+            fixed_calls::scanned(held, call, q)
+        }
+        Number::Fault(place) => 0,
+    }
+}
+
+// A request of `dft`, its length and its bytes.
+fn requested(held: &[u8], p: usize) -> usize {
     match groups::number_at(held, p) {
         Number::Value(v, q) => {
             let n = v as usize;
             if held.len() < q {
-                return p;
+                return 0;
             }
             if held.len() - q < n {
-                return p;
+                return 0;
             }
             line::print(&held[q..q + n]);
             q + n
         }
-        Number::Fault(place) => p,
+        Number::Fault(place) => 0,
     }
 }
