@@ -12,14 +12,14 @@ use Rattle.answer.specs.Lengths.{log-of, permitted-log}
 use Rattle.fourier.specs.Sizes.{two-halves}
 use Rattle.points.specs.Interleaved.{number, part}
 use Rattle.sine.specs.Constant.{sine}
-use Rattle.sine.specs.Rules.{accepted-sized, Small, re-small, im-small}
+use Rattle.sine.specs.Rules.{accepted-turns, Small, re-small, im-small}
 use Rattle.sine.specs.Sine.{sine-pair, whole, stride, sine-accepted}
 
 -- Each is part of a sized pair.
 pub constant-small : (q : ℕ) → q < 4096 → Small (number sine q)
 unfolding sine-pair
 constant-small q h =
-    let s = rw one-mul at (accepted-sized 2048 (sine-pair 12) (sine-accepted 12 (lit≤ tt) (lit≤ tt)) (q / 2) (omega arith)) in
+    let s = rw one-mul at (accepted-turns 2048 (sine-pair 12) (sine-accepted 12 (lit≤ tt) (lit≤ tt)) .each (q / 2) (omega arith)) in
     ⊎-elim
     (λ e. let twice : q / 2 + q / 2 ≡ q = omega arith in rw twice at (re-small s))
     (λ e. let twice : suc (q / 2 + q / 2) ≡ q = omega arith in rw twice at (im-small s)) (eq-or-ne (q % 2) 0)

@@ -6,8 +6,9 @@ use mathlib.Core.Logic.{⊎-elim}
 use native.Mathlib.Nat.{eq-or-lt-of-le, not-suc-le-zero}
 use native.Mathlib.Omega.{arith}
 use Rattle.answer.specs.Search.{Passed}
+use Rattle.points.specs.Steps.{Turn}
 use Rattle.points.specs.declared.Point.{Point}
-use Rattle.sine.specs.Rules.{entry, starts, sized, follows, linked, rule, Sized, passed-sized}
+use Rattle.sine.specs.Rules.{entry, starts, sized, follows, linked, rule, passed-turn}
 
 module _ (h : ℕ) (t : ℕ → Point) where
   pub rule-unsized : (i : ℕ) → sized (entry h t i) ≡ false → rule h t i ≡ false
@@ -25,5 +26,5 @@ module _ (h : ℕ) (t : ℕ → Point) where
   rule-later (suc i) l e = let z : suc i - 1 ≡ i = omega arith in rw (e, z)
 
   -- T[1] was passed, or it stands at this place.
-  pub second-sized : (i : ℕ) → 0 < i → Passed (rule h t) i → Sized (entry h t i) → Sized (entry h t 1)
-  second-sized i l r s = ⊎-elim (λ e. rw e s) (λ k. passed-sized h t r 1 k) (eq-or-lt-of-le l)
+  pub second-turn : (i : ℕ) → 0 < i → Passed (rule h t) i → Turn (entry h t i) → Turn (entry h t 1)
+  second-turn i l r s = ⊎-elim (λ e. rw e s) (λ k. passed-turn h t r 1 k) (eq-or-lt-of-le l)

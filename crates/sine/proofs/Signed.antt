@@ -1,19 +1,20 @@
 -- Signed numbers as code tests them, and what the widths hold of them.
 use Prim.Native.Nat.{ℕ, suc, _-_, _^_, _<_, _≤_}
-use mathlib.Core.Path.{_≡_, refl, sym, _∙_}
+use mathlib.Core.Path.{_≡_, refl, sym}
 use mathlib.Core.Bool.{true, false, false≢true}
 use mathlib.Core.List.{[], _∷_}
 use native.Mathlib.Nat.{mul-le-mul, not-suc-le-zero}
 use native.Mathlib.Omega.{arith}
 use lib.Dec.{leb, eqb}
 use lib.IntN.{ℤ, pos, negsuc, natAbs, _+ℤ_, _-ℤ_, _*ℤ_, +ℤ-idl}
-use lib.Signed.{mag, leZ, ltZ, nonNeg}
-use mir.Syntax.{Width, w32, w64}
-use mir.Val.{SFits, ofZ, toZ, hbits}
+use lib.Signed.{leZ, ltZ, nonNeg}
+use mir.Syntax.{w32, w64}
+use mir.Val.{SFits, ofZ, toZ}
 use mir.ValLaws.{toZ-ofZ}
 use borrow.Author.Tests.{ltb-true, ltb-false, le-leb, lt-leb, ne-eqb}
 use Rattle.algebra.specs.Integers.{integers, natAbs-add, natAbs-sub, natAbs-mul}
 use Rattle.algebra.specs.Solver.{v, :0, _:+_, _:-_, _:*_, ring}
+use Rattle.points.proofs.Fits.{fits}
 use Rattle.sine.specs.Rules.{is, Small}
 
 -- ---- tests
@@ -43,24 +44,6 @@ is-bits (negsuc a) n f h = ne-eqb (4294967296 - suc a) n (λ e. let g : a < 2147
 
 -- ---- widths
 
--- What 32 bits hold, 64 hold.
-pub fits-wide : {z : ℤ} → SFits w32 z → SFits w64 z
-fits-wide f = record { sfits = omega arith }
-
-mag-size : (z : ℤ) → mag z ≤ natAbs z
-mag-size (pos a) = omega arith
-mag-size (negsuc a) = omega arith
-
-pub small-fits : (z : ℤ) → natAbs z ≤ 23171 → SFits w32 z
-small-fits z h = record { sfits = omega (arith, mag-size z) }
-
-pub size-fits : (z : ℤ) → natAbs z ≤ 2 ^ 32 → SFits w64 z
-size-fits z h = record { sfits = omega (arith, mag-size z) }
-
--- A number that a call gave is kept as bits and read back.
-pub back : (w : Width) {r z : ℤ} → mag r < 2 ^ hbits w → r ≡ z → toZ w (ofZ w r) ≡ z
-back w {r} f e = toZ-ofZ w r (record { sfits = f }) ∙ e
-
 -- What fits on the way to a c + b d - 16,384 e.
 pub record Ways (a b c d e : ℤ) : Type 0 where
   pub first : SFits w64 (a *ℤ c)
@@ -81,17 +64,17 @@ ways {a} {b} {c} {d} {e} s =
     let small = s .4 .size in
     let all = natAbs-sub (a *ℤ c +ℤ b *ℤ d) (pos 16384 *ℤ e) in
     record {
-      first = size-fits (a *ℤ c) (omega arith);
-      second = size-fits (b *ℤ d) (omega arith);
-      sum = size-fits (a *ℤ c +ℤ b *ℤ d) (omega arith);
-      third = size-fits (pos 16384 *ℤ e) (omega arith);
-      all = size-fits (a *ℤ c +ℤ b *ℤ d -ℤ pos 16384 *ℤ e) (omega arith);
+      first = fits {m = 2 ^ 32} (a *ℤ c) (omega arith) tt;
+      second = fits {m = 2 ^ 32} (b *ℤ d) (omega arith) tt;
+      sum = fits {m = 2 ^ 32} (a *ℤ c +ℤ b *ℤ d) (omega arith) tt;
+      third = fits {m = 2 ^ 32} (pos 16384 *ℤ e) (omega arith) tt;
+      all = fits {m = 2 ^ 32} (a *ℤ c +ℤ b *ℤ d -ℤ pos 16384 *ℤ e) (omega arith) tt;
     }
 
 -- ---- the parts of sized pairs, read back
 
 pub small-back : {z : ℤ} → Small z → toZ w32 (ofZ w32 z) ≡ z
-small-back {z} s = toZ-ofZ w32 z (small-fits z (s .size))
+small-back {z} s = toZ-ofZ w32 z (fits z (s .size) tt)
 
 pub back-small : {z : ℤ} → Small z → Small (toZ w32 (ofZ w32 z))
 back-small s = rw (small-back s) s

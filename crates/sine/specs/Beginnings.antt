@@ -19,6 +19,7 @@ use Rattle.answer.specs.declared.Found.the-variants.{At, Nowhere}
 use Rattle.answer.specs.declared.Answer.{Answer}
 use Rattle.fourier.specs.Sizes.{two-halves}
 use Rattle.points.specs.Interleaved.{point}
+use Rattle.points.specs.Steps.{times}
 use Rattle.points.specs.declared.Point.{Point}
 use Rattle.sine.specs.Constant.{sine}
 use Rattle.sine.specs.Rules.{half-turn, entry, sized, near, follows, linked, rule, Accepted, bad-pair, entry-pair, entry-closing, same-rule, rule-parts}
@@ -39,8 +40,7 @@ far off (negsuc a) some e = absurd (false≢true some)
 
 not-followed : (x p q : Point) → nonNeg (q .re) ≡ true → follows x p q ≡ true → follows x p half-turn ≡ false
 unfolding follows
-not-followed x p q some e =
-    rw (far (p .re *ℤ x .re -ℤ p .im *ℤ x .im) (q .re) some (and-eq-true-iff (near (p .re *ℤ x .re -ℤ p .im *ℤ x .im -ℤ pos 16384 *ℤ q .re)) _ .0 e .0))
+not-followed x p q some e = rw (far (times p x .re) (q .re) some (and-eq-true-iff (near (times p x .re -ℤ pos 16384 *ℤ q .re)) _ .0 e .0))
 
 -- The first k pairs of an accepted table, two or more, where the real part of T[k] is not negative: only the closing rule fails.
 pub beginning-fails : (h k : ℕ) (s t : ℕ → Point) → 2 ≤ k → k < h → ((i : ℕ) → i < k → s i ≡ t i) → Accepted h t → nonNeg (t k .re) ≡ true → FailsFirst (rule k s) (suc k) k

@@ -6,14 +6,15 @@ use mathlib.Core.List.{List}
 use mathlib.Core.Logic.{⊎-elim}
 use native.Mathlib.Omega.{arith}
 use lib.Dec.{ltb, leb, eqb}
-use lib.IntN.{ℤ, pos, negsuc, natAbs, _+ℤ_, _-ℤ_, _*ℤ_}
+use lib.IntN.{ℤ, pos, negsuc, natAbs}
 use lib.Signed.{nonNeg}
-use lib.ListN.{length, List·getD-eq-default}
+use lib.ListN.{length}
 use borrow.Author.Tests.{lt-ltb, le-ltb, leb-true}
 use Rattle.answer.specs.Cases.{lt-or-ge}
 use Rattle.answer.specs.Search.{first, Passed}
 use Rattle.answer.specs.declared.Found.{Found}
 use Rattle.points.specs.Interleaved.{point}
+use Rattle.points.specs.Steps.{minus, times, scaled, Turn, Turns}
 use Rattle.points.specs.declared.Point.{Point}
 
 -- ---- document 01's rules, for a table t of h = N/2 pairs
@@ -45,9 +46,7 @@ near off = leb (natAbs off) 32768
 
 -- p "times" x "differs from 16,384" q "by at most 32,768 in each part".
 unfoldable pub follows : Point → Point → Point → Bool
-follows x p q =
-    near (p .re *ℤ x .re -ℤ p .im *ℤ x .im -ℤ pos 16384 *ℤ q .re)
-    && near (p .re *ℤ x .im +ℤ p .im *ℤ x .re -ℤ pos 16384 *ℤ q .im)
+follows x p q = let off = minus (times p x) (scaled 16384 q) in near (off .re) && near (off .im)
 
 -- "T[0] is (16,384, 0)"; "for i from 1 to N/2, T[i-1] times T[1] differs from 16,384 T[i] by at most 32,768 in each part".
 unfoldable pub linked : ℕ → (ℕ → Point) → ℕ → Bool
@@ -97,34 +96,24 @@ accepted-as h s t same r = record { each = λ i l. same-rule h h s t i (entries 
 
 -- ---- the sizes of an accepted table's pairs
 
--- "The sizes of both parts sum to at most 23,171."
-pub record Sized (p : Point) : Type 0 where
-  pub sum : natAbs (p .re) + natAbs (p .im) ≤ 23171
-
--- So each part is at most that.
+-- Each part is at most what their sizes sum to.
 pub record Small (z : ℤ) : Type 0 where
   pub size : natAbs z ≤ 23171
 
-pub re-small : {p : Point} → Sized p → Small (p .re)
+pub re-small : {p : Point} → Turn p → Small (p .re)
 re-small s = record { size = omega arith }
 
-pub im-small : {p : Point} → Sized p → Small (p .im)
+pub im-small : {p : Point} → Turn p → Small (p .im)
 im-small s = record { size = omega arith }
 
-pub sized-sum : (p : Point) → sized p ≡ true → Sized p
+pub sized-turn : (p : Point) → sized p ≡ true → Turn p
 unfolding sized
-sized-sum p e = record { sum = leb-true _ 23171 (and-eq-true-iff (nonNeg (p .im)) (leb (natAbs (p .re) + natAbs (p .im)) 23171) .0 e .1) }
+sized-turn p e = record { sizes = leb-true _ 23171 (and-eq-true-iff (nonNeg (p .im)) (leb (natAbs (p .re) + natAbs (p .im)) 23171) .0 e .1) }
 
 -- The places that were passed have those sizes.
-pub passed-sized : (h : ℕ) (t : ℕ → Point) {k : ℕ} → Passed (rule h t) k → (i : ℕ) → i < k → Sized (entry h t i)
-passed-sized h t r i l = sized-sum _ (rule-parts h t i (r .each i l) .0)
+pub passed-turn : (h : ℕ) (t : ℕ → Point) {k : ℕ} → Passed (rule h t) k → (i : ℕ) → i < k → Turn (entry h t i)
+passed-turn h t r i l = sized-turn _ (rule-parts h t i (r .each i l) .0)
 
-pub accepted-sized : (h : ℕ) (t : ℕ → Point) → Accepted h t → (i : ℕ) → i < h → Sized (t i)
-accepted-sized h t r i l = rw (entry-pair h t l) at (passed-sized h t r i (omega arith))
-
--- Of a list of pairs every one has them: behind the end `point` gives (0, 0).
-pub every-sized : (h : ℕ) (l : List ℤ) → length l ≡ h + h → Accepted h (point l) → (i : ℕ) → Sized (point l i)
-every-sized h l long r i =
-    ⊎-elim (accepted-sized h (point l) r i)
-    (λ k. rw (List·getD-eq-default l (pos 0) {n = i + i} (omega arith), List·getD-eq-default l (pos 0) {n = suc (i + i)} (omega arith)) (record { sum = omega arith }))
-    (lt-or-ge i h)
+-- And so has every pair of an accepted table.
+pub accepted-turns : (h : ℕ) (t : ℕ → Point) → Accepted h t → Turns t h
+accepted-turns h t r = record { each = λ i l. rw (entry-pair h t l) at (passed-turn h t r i (omega arith)) }

@@ -10,11 +10,11 @@ use lib.IntN.{ℤ, pos, negsuc}
 use lib.ListN.{length, drop, List·getD-append}
 use lib.Pow.{pow-add, pow-pos}
 use lib.Seq.{getD-drop}
-use Rattle.answer.specs.Lists.{length-tabulate, getD-tabulate}
+use Rattle.answer.specs.Lists.{length-tabulate}
 use Rattle.answer.specs.Search.{first, nowhere-passed}
 use Rattle.answer.specs.declared.Found.the-variants.{Nowhere}
 use Rattle.fourier.specs.Sizes.{rows, two-halves}
-use Rattle.points.specs.Interleaved.{number, point, part, interleaved}
+use Rattle.points.specs.Interleaved.{number, point, interleaved, point-interleaved}
 use Rattle.points.specs.declared.Point.{Point}
 use Rattle.sine.specs.Constant.{sine}
 use Rattle.sine.specs.Rules.{half-turn, entry, starts, sized, follows, linked, rule, Accepted, entry-pair, entry-closing, accepted-as}
@@ -125,16 +125,6 @@ pub sine-accepted : (n : ℕ) → 1 ≤ n → n ≤ 12 → Accepted (2 ^ (n - 1)
 sine-accepted n some few = let e : suc (n - 1) ≡ n = omega arith in rw e at (accepted-pairs (n - 1) (omega arith))
 
 -- ---- as a list
-
--- Point p of a buffer that points make.
-pub point-interleaved : (n : ℕ) (f : ℕ → Point) (p : ℕ) → p < n → point (interleaved n f) p ≡ f p
-unfolding part
-point-interleaved n f p h =
-    let even : (p + p) % 2 ≡ 0 = omega arith in
-    let odd : suc (p + p) % 2 ≡ 1 = omega arith in
-    let half : (p + p) / 2 ≡ p = omega arith in
-    let half′ : suc (p + p) / 2 ≡ p = omega arith in
-    rw (getD-tabulate (pos 0) (n + n) (part f) (p + p) (omega arith), getD-tabulate (pos 0) (n + n) (part f) (suc (p + p)) (omega arith), part, even, odd, half, half′)
 
 -- The table for N has N numbers.
 pub sine-table-length : (n : ℕ) → 1 ≤ n → length (sine-table n) ≡ 2 ^ n

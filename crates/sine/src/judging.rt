@@ -7,7 +7,8 @@ ghost use lib.IntN.{pos, natAbs, _+ℤ_, _-ℤ_, _*ℤ_};
 ghost use lib.ListN.{length};
 ghost use Rattle.answer.specs.Search.{Passed};
 ghost use Rattle.points.specs.Interleaved.{point};
-ghost use Rattle.sine.specs.Rules.{entry, starts, sized, near, follows, rule, bad-pair, Sized, Small};
+ghost use Rattle.points.specs.Steps.{Turn};
+ghost use Rattle.sine.specs.Rules.{entry, starts, sized, near, follows, rule, bad-pair, Small};
 
 // "T[N/2] stands for (-16,384, 0)."
 const HALF_TURN: Point = Point { re: -16384, im: 0 };
@@ -51,9 +52,7 @@ fn entry(table: &[i32], i: usize) -> Point
     ensures { λ r. ⌜ r ≡ entry (length (now (table .entry)) / 2) (point (now (table .entry))) i ⌝ }
 {
     if i < table.len() / 2 {
-        let re = table[i + i];
-        let im = table[i + i + 1];
-        return Point { re, im };
+        return points::point_at(table, i);
     }
     HALF_TURN
 }
@@ -91,7 +90,7 @@ fn size(z: i32) -> i64
 
 // Whether p times x differs from 16,384 q by at most 32,768 in each part.
 fn follows(x: Point, p: Point, q: Point) -> bool
-    requires { ⌜ Sized x × Sized p × Sized q ⌝ }
+    requires { ⌜ Turn x × Turn p × Turn q ⌝ }
     ensures { λ r. ⌜ r ≡ follows x p q ⌝ }
 {
     let minus = 0 - x.im;

@@ -11,8 +11,8 @@ use Rattle.answer.specs.Lists.{listed, holds-self}
 use Rattle.answer.proofs.Writes.{Written, written-none, written-next, written-all}
 use Rattle.fourier.specs.Sizes.{two-halves}
 use Rattle.points.specs.Interleaved.{number, part}
+use Rattle.points.proofs.Fits.{back}
 use Rattle.sine.specs.Sine.{sine-pair, sine-table}
-use Rattle.sine.proofs.Signed.{back}
 use Rattle.sine.proofs.Numbers.{source, source-below, source-part}
 use Rattle.sine.proofs.filling.write_pairs.Statement.{statement}
 use Rattle.sine.proofs.filling.write_pairs.Tie as tie

@@ -2,15 +2,16 @@
 use mathlib.Core.Path.{_≡_, sym, ap, _∙_}
 use lib.IntN.{ℤ, pos, _-ℤ_, _*ℤ_}
 use borrow.Author.Tests.{not-true, not-false}
+use Rattle.points.proofs.Fits.{fits}
 use Rattle.sine.specs.Rules.{near, follows, re-small, im-small}
-use Rattle.sine.proofs.Signed.{small-fits, small-back, back-small, minus-small, minus-product}
+use Rattle.sine.proofs.Signed.{small-back, back-small, minus-small, minus-product}
 use Rattle.sine.proofs.judging.follows.Statement.{statement}
 use Rattle.sine.proofs.judging.follows.Tie as tie
 
 sub-minus : tie.Need-sub-minus
 sub-minus c =
     let x = im-small (c .before .before .pre .0) in
-    rw (small-back x) (small-fits _ (minus-small x .size))
+    rw (small-back x) (fits _ (minus-small x .size) tt)
 
 near-requires : tie.Need-near-requires
 near-requires c κs =

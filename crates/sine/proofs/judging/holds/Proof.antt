@@ -7,8 +7,9 @@ use lib.ListN.{length}
 use borrow.Author.Needs.{needs}
 use borrow.Author.Tests.{not-true, not-false}
 use Rattle.points.specs.Interleaved.{point}
-use Rattle.sine.specs.Rules.{entry, starts, sized, follows, Sized, sized-sum, passed-sized}
-use Rattle.sine.proofs.Rules.{rule-unsized, rule-first, rule-later, second-sized}
+use Rattle.points.specs.Steps.{Turn}
+use Rattle.sine.specs.Rules.{entry, starts, sized, follows, sized-turn, passed-turn}
+use Rattle.sine.proofs.Rules.{rule-unsized, rule-first, rule-later, second-turn}
 use Rattle.sine.proofs.judging.holds.Statement.{statement}
 use Rattle.sine.proofs.judging.holds.Tie as tie
 
@@ -52,10 +53,10 @@ follows-requires c κs =
     let s = e .before .before .before in
     let t = s .args .table .now in
     let l : 0 < s .args .place = omega (arith, c .before .before .if2 .left) in
-    let sizes = sized-sum _ (here e) in
-    let x : Sized (c .before .entry2 .result) = rw (c .before .entry2 .ensures) (second-sized (length t / 2) (point t) (s .args .place) l (s .pre) sizes) in
-    let p : Sized (c .entry3 .result) = rw (c .entry3 .ensures) (passed-sized (length t / 2) (point t) (s .pre) (s .args .place - 1) (omega arith)) in
-    let q : Sized (e .before .before .entry .result) = rw (e .before .before .entry .ensures) sizes in
+    let sizes = sized-turn _ (here e) in
+    let x : Turn (c .before .entry2 .result) = rw (c .before .entry2 .ensures) (second-turn (length t / 2) (point t) (s .args .place) l (s .pre) sizes) in
+    let p : Turn (c .entry3 .result) = rw (c .entry3 .ensures) (passed-turn (length t / 2) (point t) (s .pre) (s .args .place - 1) (omega arith)) in
+    let q : Turn (e .before .before .entry .result) = rw (e .before .before .entry .ensures) sizes in
     search needs
 
 returns-3 : tie.Need-returns-3

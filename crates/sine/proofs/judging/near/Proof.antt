@@ -3,7 +3,7 @@ use mathlib.Core.Path.{ap, _∙_}
 use lib.Dec.{leb}
 use lib.IntN.{natAbs}
 use mir.Syntax.{w64}
-use Rattle.sine.proofs.Signed.{back}
+use Rattle.points.proofs.Fits.{back}
 use borrow.Author.Needs.{needs}
 use Rattle.sine.proofs.judging.near.Statement.{statement}
 use Rattle.sine.proofs.judging.near.Tie as tie

@@ -1,6 +1,7 @@
 -- Small numbers have small products.
 use borrow.Author.Needs.{needs}
-use Rattle.sine.proofs.Signed.{ways, fits-wide}
+use Rattle.points.proofs.Fits.{fits-wide}
+use Rattle.sine.proofs.Signed.{ways}
 use Rattle.sine.proofs.judging.off.Statement.{statement}
 use Rattle.sine.proofs.judging.off.Tie as tie
 

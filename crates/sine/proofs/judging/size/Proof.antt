@@ -1,4 +1,5 @@
 -- By the sign, in 64 bits.
+use Prim.Native.Nat.{_^_}
 use mathlib.Core.Path.{_≡_, _∙_}
 use native.Mathlib.Omega.{arith}
 use lib.IntN.{pos, _-ℤ_}
@@ -8,7 +9,8 @@ use mir.Val.{SFits, toZ, ofZ}
 use mir.ValLaws.{toZ-ofZ}
 use borrow.Author.Needs.{needs}
 use Rattle.algebra.specs.Integers.{natAbs-sub}
-use Rattle.sine.proofs.Signed.{negative, not-negative, fits-wide, size-fits}
+use Rattle.points.proofs.Fits.{fits, fits-wide}
+use Rattle.sine.proofs.Signed.{negative, not-negative}
 use Rattle.sine.proofs.judging.size.Statement.{statement}
 use Rattle.sine.proofs.judging.size.Tie as tie
 use Rattle.sine.proofs.judging.size.Reads as reads
@@ -20,7 +22,7 @@ module _ (c : lts.Start reads.Pre reads.Post) where
   wide-is = search (needs, fits-wide)
 
   minus-fits : SFits w64 (pos 0 -ℤ c .args .z)
-  minus-fits = size-fits (pos 0 -ℤ c .args .z) (omega (arith, natAbs-sub (pos 0) (c .args .z), natAbs-le (c .args .z) (c .fits .z .sfits)))
+  minus-fits = fits {m = 2 ^ 32} (pos 0 -ℤ c .args .z) (omega (arith, natAbs-sub (pos 0) (c .args .z), natAbs-le (c .args .z) (c .fits .z .sfits))) tt
 
 cast-wide : tie.Need-cast-wide
 cast-wide c = search (needs, fits-wide)

@@ -1,5 +1,5 @@
 -- The sign, and the sum of two sizes in 64 bits.
-use Prim.Native.Nat.{_+_}
+use Prim.Native.Nat.{_+_, _^_}
 use mathlib.Core.Path.{_≡_, ap, ap₂, _∙_}
 use native.Mathlib.Omega.{arith}
 use lib.IntN.{ℤ, pos, natAbs, _+ℤ_}
@@ -9,7 +9,8 @@ use mir.Val.{SFits, toZ, ofZ}
 use mir.ValLaws.{toZ-ofZ}
 use borrow.Author.Needs.{needs}
 use Rattle.sine.specs.Rules.{sized}
-use Rattle.sine.proofs.Signed.{negative, not-negative, size-fits, back}
+use Rattle.points.proofs.Fits.{fits, back}
+use Rattle.sine.proofs.Signed.{negative, not-negative}
 use Rattle.sine.proofs.judging.sized.Statement.{statement}
 use Rattle.sine.proofs.judging.sized.Tie as tie
 
@@ -49,7 +50,7 @@ module _ (c : tie.After-size2) where
       (back w64 (c .size2 .ok) (c .size2 .ensures ∙ ap (λ z. pos (natAbs z)) (toZ-ofZ w32 im im-fits)))
 
   sum-fits : SFits w64 (pos (natAbs re + natAbs im))
-  sum-fits = size-fits (pos (natAbs re + natAbs im)) (omega (arith, natAbs-le re (re-fits .sfits), natAbs-le im (im-fits .sfits)))
+  sum-fits = fits {m = 2 ^ 32} (pos (natAbs re + natAbs im)) (omega (arith, natAbs-le re (re-fits .sfits), natAbs-le im (im-fits .sfits))) tt
 
 add-result : tie.Need-add-result
 add-result c = rw (sum-is c) (sum-fits c)
