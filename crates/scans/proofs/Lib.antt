@@ -3,3 +3,4 @@ pub mod Buffers
 pub mod Sizes
 pub mod Blocks
 pub mod Going
+pub mod ByHalves

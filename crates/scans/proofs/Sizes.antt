@@ -31,12 +31,12 @@ pub scanned-up : {m n : ℕ} {t l : List ℤ} → Scanned m t l → m ≤ n → 
 scanned-up scanned h = record { turns = scanned .turns; each = λ p. sized-up (scanned .each p) h }
 
 -- A buffer that is from point a on as it was: k points from there on, as they are lent on.
-pub lent-scanned : {m n a : ℕ} {t l₀ l : List ℤ} {new : Buffer Point} → Scanned m t l₀ → Whole l n → Written origin (points l) n a new (point l₀) → (k b q : ℕ) → a + k ≤ n → b ≡ a + a → q ≡ k + k →
-    Whole (midOf b q l) k × Scanned m t (midOf b q l)
-lent-scanned {a = a} scanned whole r k b q room eb eq =
+pub lent-scanned : {m n a j : ℕ} {t l₀ l : List ℤ} {new old : Buffer Point} → Scanned j t l₀ → ((p : ℕ) → p < n → Sized m (old p)) → Whole l n → Written origin (points l) n a new old →
+    (k b q : ℕ) → a + k ≤ n → b ≡ a + a → q ≡ k + k → Whole (midOf b q l) k × Scanned m t (midOf b q l)
+lent-scanned {a = a} scanned each whole r k b q room eb eq =
     let lent = lent-whole whole a k room in
     rw (eb, eq)
-    (lent, sized-by scanned lent (points-hold lent) (λ p h. rw (lent-point whole a k room p h ∙ sym (points-at whole (a + p)) ∙ r .left (a + p) (omega arith) (omega arith)) (scanned .each (a + p))))
+    (lent, sized-by scanned lent (points-hold lent) (λ p h. rw (lent-point whole a k room p h ∙ sym (points-at whole (a + p)) ∙ r .left (a + p) (omega arith) (omega arith)) (each (a + p) (omega arith))))
 
 -- The step keeps the sizes.
 step-sized : (t : ℕ → Point) (s x e : ℕ) {a b : Point} → Turn (t e) → Sized (grow s) a → Sized (grow s) b → Sized (grow (suc s)) (rounded half-up t x e a b)
@@ -47,10 +47,12 @@ step-sized t s (suc x) e {a} {b} turn h g = sized-kept half-up-half 1 {t = λ _.
 pub record Tabled (σ : Stage) (N : ℕ) (t : List ℤ) : Type 0 where
   pub below : (p : ℕ) → p < N → σ p .exponent < length t / 2
 
-pub stage-sized : {N : ℕ} {t l l′ : List ℤ} {σ : Stage} (s : ℕ) → Scanned (grow s) t l → Tabled σ N t → Made l′ N (step (rounded half-up (point t)) σ (point l)) → Scanned (grow (suc s)) t l′
-stage-sized {t = t} {σ = σ} s scanned tabled made =
-    sized-by scanned (made .whole) (holds (made .held))
-    (λ p h. step-sized (point t) s (σ p .part) (σ p .exponent) (scanned .turns .each (σ p .exponent) (tabled .below p h)) (scanned .each (σ p .first)) (scanned .each (σ p .second)))
+module _ {N : ℕ} {t l : List ℤ} {σ : Stage} (s : ℕ) (scanned : Scanned (grow s) t l) (tabled : Tabled σ N t) where
+  pub stage-each : (p : ℕ) → p < N → Sized (grow (suc s)) (step (rounded half-up (point t)) σ (point l) p)
+  stage-each p h = step-sized (point t) s (σ p .part) (σ p .exponent) (scanned .turns .each (σ p .exponent) (tabled .below p h)) (scanned .each (σ p .first)) (scanned .each (σ p .second))
+
+  pub stage-sized : {l′ : List ℤ} → Made l′ N (step (rounded half-up (point t)) σ (point l)) → Scanned (grow (suc s)) t l′
+  stage-sized made = sized-by scanned (made .whole) (holds (made .held)) stage-each
 
 -- In twelve stages the sizes stay as a stage asks.
 pub scanned-most : {t l : List ℤ} (s : ℕ) → Scanned (grow s) t l → s ≤ 12 → Scanned (2 ^ 22) t l

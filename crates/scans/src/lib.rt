@@ -1,7 +1,9 @@
 // Schedules 1, 2 and 3 in fixed point.
 mod columns;
+mod halves;
 mod stages;
 
 pub use columns::by_columns;
+pub use halves::by_halves;
 pub use stages::block;
 pub use stages::stage;

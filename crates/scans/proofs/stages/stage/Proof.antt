@@ -63,7 +63,7 @@ block-requires c κs =
     let i = c .before in
     let l = i .before .loop in
     let s = i .before .before in
-    let lent = lent-scanned (s .pre .0) (l .inv .2) (l .inv .3) (s .args .h + s .args .h) (l .base) (l .base + 4 * s .args .h - l .base) (room i) (l .inv .1) (omega arith) in
+    let lent = lent-scanned (s .pre .0) (λ p g. s .pre .0 .each p) (l .inv .2) (l .inv .3) (s .args .h + s .args .h) (l .base) (l .base + 4 * s .args .h - l .base) (room i) (l .inv .1) (omega arith) in
     (lent .1, (lent .0 .long, (s .pre .1 .1 .0, s .pre .1 .1 .1)))
 
 add-base : tie.Need-add-base Inv-loop μ-loop
