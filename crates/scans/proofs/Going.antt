@@ -8,15 +8,15 @@ use lib.IntN.{ℤ}
 use lib.ListN.{length, getD}
 use Rattle.answer.specs.Lists.{tabulate}
 use Rattle.fourier.specs.Sizes.{two-halves}
-use Rattle.fourier.specs.Schedules.{Stage, step, run}
-use Rattle.fourier.specs.Blocks.{Within, Ran, ran-next}
+use Rattle.fourier.specs.Schedules.{Stage, shuffle, step, run}
+use Rattle.fourier.specs.Blocks.{Within, shuffled-within, Ran, ran-next}
 use Rattle.points.specs.Interleaved.{point, points, interleaved}
 use Rattle.points.specs.Rounding.{half-up}
 use Rattle.points.specs.Steps.{rounded}
 use Rattle.points.specs.Growth.{grow}
 use Rattle.scans.specs.Scans.{Scanned}
 use Rattle.scans.proofs.Buffers.{origin, Whole, made, points-hold, points-at, interleaved-points}
-use Rattle.scans.proofs.Sizes.{Tabled, stage-sized}
+use Rattle.scans.proofs.Sizes.{Tabled, stage-sized, shuffle-tabled}
 
 -- A table of 2^n numbers has 2^(n-1) pairs.
 pub table-pairs : (n : ℕ) {T : ℕ} → 0 < n → T ≡ 2 ^ n → T / 2 ≡ 2 ^ (n - 1)
@@ -50,3 +50,8 @@ module _ {n : ℕ} {t : List ℤ} {σ : ℕ → Stage} where
   -- All n stages are done.
   pub going-all : {l₀ l : List ℤ} {s : ℕ} → Going n t l₀ σ s l → s ≡ n → l ≡ interleaved (2 ^ n) (run (rounded half-up (point t)) σ n (point l₀))
   going-all r e = interleaved-points (r .whole) (rw e at (r .ran .held))
+
+-- Stage s of schedule 2 is done, from one buffer into the other.
+pub turn-next : {n s : ℕ} {t l₀ l l′ : List ℤ} → Going n t l₀ (shuffle n) s l → 0 < n → length t ≡ 2 ^ n → l′ ≡ interleaved (2 ^ n) (step (rounded half-up (point t)) (shuffle n s) (point l)) →
+    Going n t l₀ (shuffle n) (s + 1) l′
+turn-next {n} {s} {t} r some e made = going-next r (rw (two-halves n some) (shuffled-within _ _)) (shuffle-tabled n s t some (table-pairs n some e)) made

@@ -1,5 +1,5 @@
 -- The sizes of points in a buffer, in a part of it, and after a stage.
-use Prim.Native.Nat.{ℕ, zero, suc, _+_, _*_, _/_, _^_, _<_, _≤_}
+use Prim.Native.Nat.{ℕ, zero, suc, _+_, _-_, _*_, _/_, _^_, _<_, _≤_}
 use mathlib.Core.Path.{_≡_, sym, _∙_}
 use mathlib.Core.List.{List}
 use native.Mathlib.Nat.{mod-lt}
@@ -10,7 +10,8 @@ use lib.ListN.{length, getD}
 use borrow.Rule.Slice.PartMut.{midOf}
 use Rattle.answer.specs.Lists.{Holds, holds, holds-every}
 use Rattle.answer.proofs.Writes.{Written}
-use Rattle.fourier.specs.Schedules.{Buffer, Stage, butterfly, step}
+use Rattle.fourier.specs.Schedules.{Buffer, Stage, butterfly, shuffled, shuffle, step}
+use Rattle.fourier.specs.Sizes.{two-halves}
 use Rattle.butterflies.proofs.Blocks.{exponent-below}
 use Rattle.points.specs.declared.Point.{Point}
 use Rattle.points.specs.Interleaved.{point, points}
@@ -62,3 +63,8 @@ scanned-most s scanned h = scanned-up scanned (grow-most s h)
 pub butterfly-tabled : (stride h N : ℕ) (t : List ℤ) → 1 ≤ stride → 0 < h → stride * h ≤ length t / 2 → Tabled (butterfly stride h) N t
 unfolding butterfly
 butterfly-tabled stride h N t some pos room = record { below = λ p l. exponent-below some (mod-lt p pos) room }
+
+-- The exponents of a stage by shuffle.
+pub shuffle-tabled : (n s : ℕ) (t : List ℤ) → 0 < n → length t / 2 ≡ 2 ^ (n - 1) → Tabled (shuffle n s) (2 ^ n) t
+unfolding shuffled
+shuffle-tabled n s t some pairs = record { below = λ p l. omega (arith, two-halves n some) }
