@@ -4,6 +4,7 @@ mod moves;
 mod stages;
 mod turns;
 
+pub use counting::multiple;
 pub use turns::by_pease;
 pub use turns::by_shuffle;
 pub use turns::single;
