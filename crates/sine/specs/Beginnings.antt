@@ -77,7 +77,7 @@ module _ (n n′ : ℕ) (two : 2 ≤ n′) (less : n′ < n) (few : n ≤ 12) wh
       let e : 4096 / 2 ^ n * 2 ^ (n′ - 1) ≡ 2 ^ j = rw (stride n few) (sym (pow-add 2 (12 - n) (n′ - 1))) in
       rw e (nowhere-passed (λ j. nonNeg (point sine (2 ^ j) .re)) 11 quarter .each j (omega arith))
 
-  beginning-length : length (take (2 ^ n′) (sine-table n)) ≡ 2 ^ n′
+  pub beginning-length : length (take (2 ^ n′) (sine-table n)) ≡ 2 ^ n′
   beginning-length =
       let longer : 2 ^ n′ < 2 ^ n = pow-lt less in
       length-take (2 ^ n′) (sine-table n) ∙ omega (arith, sine-table-length n (omega arith))
