@@ -38,13 +38,13 @@ module _ {l l₁ l₂ : List ℤ} {n : ℕ} (i j : ℕ) (x y : Point) (whole : W
       rw (e₂, e₁, points-put (put l i x) j y (rw (length-put l i x) (omega arith)), points-put l i x (omega arith))
 
 module _ (w : Wing Point) (stride h : ℕ) where
-  -- Pair i is done.
-  pub block-put : {l l₁ l₂ : List ℤ} {i : ℕ} {x y : Point} {f : Buffer Point} → Whole l (h + h) → Paired origin (points l) h i (step w (butterfly stride h) f) f → i < h →
-      x ≡ w 0 (stride * i) (point l i) (point l (i + h)) → y ≡ w 1 (stride * i) (point l i) (point l (i + h)) → l₁ ≡ put l i x → l₂ ≡ put l₁ (i + h) y →
+  -- Pair i is done, at the exponent e.
+  pub block-put : {l l₁ l₂ : List ℤ} {i e : ℕ} {x y : Point} {f : Buffer Point} → Whole l (h + h) → Paired origin (points l) h i (step w (butterfly stride h) f) f → i < h → e ≡ stride * i →
+      x ≡ w 0 e (point l i) (point l (i + h)) → y ≡ w 1 e (point l i) (point l (i + h)) → l₁ ≡ put l i x → l₂ ≡ put l₁ (i + h) y →
       Paired origin (points l₂) h (i + 1) (step w (butterfly stride h) f) f
-  block-put {l} {i = i} {x} {y} whole r g ex ey e₁ e₂ =
+  block-put {l} {i = i} {x} {y} whole r g ee ex ey e₁ e₂ =
       rw (points-put-two i (i + h) x y whole e₁ e₂ (omega arith) (omega arith))
-      (block-next w stride h r g (ex ∙ rw (points-at whole i, points-at whole (i + h))) (ey ∙ rw (points-at whole i, points-at whole (i + h))))
+      (block-next w stride h r g (ex ∙ rw (ee, points-at whole i, points-at whole (i + h))) (ey ∙ rw (ee, points-at whole i, points-at whole (i + h))))
 
   -- Block j is done.
   pub stage-put : {l part : List ℤ} {N : ℕ} {f : Buffer Point} (j a k : ℕ) → Whole l N → Written origin (points l) N (j * (h + h)) (step w (butterfly stride h) f) f → j * (h + h) + (h + h) ≤ N →
