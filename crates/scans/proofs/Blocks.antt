@@ -1,10 +1,10 @@
 -- A block pair by pair, a stage block by block, and a stage by shuffle pair by pair, as loops over buffers of points do them.
-use Prim.Native.Nat.{ℕ, suc, _+_, _*_, _<_, _≤_}
+use Prim.Native.Nat.{ℕ, _+_, _*_, _<_, _≤_}
 use mathlib.Core.Path.{_≡_, refl, sym, ap, _∙_}
 use mathlib.Core.List.{List}
 use native.Mathlib.Omega.{arith}
 use lib.IntN.{ℤ}
-use lib.ListN.{length, getD, set}
+use lib.ListN.{length, set}
 use borrow.Rule.Slice.PartMut.{midOf, putMid}
 use Rattle.answer.specs.Lists.{tabulate}
 use Rattle.answer.proofs.Pairs.{Paired}
@@ -14,7 +14,7 @@ use Rattle.points.specs.declared.Point.{Point}
 use Rattle.points.specs.Interleaved.{point, points, put, interleaved, length-put, points-put}
 use Rattle.butterflies.proofs.Blocks.{block-next, stage-next}
 use Rattle.shuffles.proofs.Places.{pair-next}
-use Rattle.scans.proofs.Buffers.{origin, Whole, Made, made, points-at, lent-at, points-back, back-whole}
+use Rattle.scans.proofs.Buffers.{origin, Whole, Made, made, points-at, lent-read, points-back, back-whole}
 
 -- Pair i of the buffer is as f says.
 pub record Pair (l : List ℤ) (h i : ℕ) (f : Buffer Point) : Type 0 where
@@ -51,9 +51,12 @@ module _ (w : Wing Point) (stride h : ℕ) where
       a ≡ j * (h + h) + j * (h + h) → k ≡ h + h + (h + h) → part ≡ interleaved (h + h) (step w (butterfly stride h) (point (midOf a k l))) →
       Whole (putMid a k l part) N × Written origin (points (putMid a k l part)) N ((j + 1) * (h + h)) (step w (butterfly stride h) f) f
   stage-put {l} {part} j a k whole r room ea ek e =
-      let ready : Made part (h + h) (step w (butterfly stride h) (point (midOf (j * (h + h) + j * (h + h)) (h + h + (h + h)) l))) = made _ _ (rw (ea, ek) at e) in
-      let held : points part ≡ tabulate (h + h) (step w (butterfly stride h) (λ p. getD (midOf (j * (h + h)) (h + h) (points l)) p origin)) = ready .held ∙ ap (λ f. tabulate (h + h) (step w (butterfly stride h) f)) (sym (lent-at whole (j * (h + h)) (h + h) room)) in
-      rw (ea, ek) (back-whole whole (j * (h + h)) (h + h) room (ready .whole), rw (points-back whole (j * (h + h)) (h + h) room (ready .whole)) (stage-next w stride h r j (h + h) refl refl room (omega arith) held))
+      let o = j * (h + h) in
+      let n = h + h in
+      let ready : Made part n (step w (butterfly stride h) (point (midOf (o + o) (n + n) l))) = made n _ (rw (ea, ek) at e) in
+      let back = ready .whole in
+      let held = ready .held ∙ ap (λ d. tabulate n (step w (butterfly stride h) d)) (sym (lent-read whole o n room)) in
+      rw (ea, ek) (back-whole whole o n room back, rw (points-back whole o n room back) (stage-next w stride h r j n refl refl room (omega arith) held))
 
 -- Pair k of a stage by shuffle is done, at the exponent i.
 pub shuffle-put : (w : Wing Point) (half : ℕ) (e : ℕ → ℕ) (d : Buffer Point) {l l₁ l₂ : List ℤ} {N h i : ℕ} {x y : Point} {f : Buffer Point} (k : ℕ) →

@@ -50,6 +50,7 @@ pub fn stage(buf: &mut [i32], table: &[i32], stride: usize, h: usize)
     ensures { λ _. ⌜ now (buf .exit) ≡ interleaved (stride * (h + h))
         (step (rounded half-up (point (now (table .entry)))) (butterfly stride h) (point (now (buf .entry)))) ⌝ }
 {
+    // The numbers of a block.
     let size = 4 * h;
     let mut base = 0;
     let mut j = 0;

@@ -1,5 +1,5 @@
 -- The buffer holds what schedule 1 has after s stages.
-use Prim.Native.Nat.{suc, _-_, _^_, _≤_}
+use Prim.Native.Nat.{suc, _-_, _≤_}
 use mathlib.Core.Path.{refl}
 use native.Mathlib.Omega.{arith}
 use lib.Pow.{pow-pos}
