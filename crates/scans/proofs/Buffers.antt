@@ -34,6 +34,9 @@ module _ {l : List ℤ} {n : ℕ} (whole : Whole l n) where
       List·getD-eq-default (points l) origin {n = p} (omega (arith, points-hold .long))
       ∙ same-parts (sym (List·getD-eq-default l (pos 0) {n = p + p} (omega arith))) (sym (List·getD-eq-default l (pos 0) {n = suc (p + p)} (omega arith)))) (lt-or-ge p n)
 
+  pub points-read : (λ p. getD (points l) p origin) ≡ point l
+  points-read = λ i p. points-at p i
+
   -- Its points one by one.
   points-by : {ys : List Point} → length ys ≡ n → ((p : ℕ) → p < n → getD ys p origin ≡ point l p) → points l ≡ ys
   points-by short here = listed points-hold ∙ sym (listed {d = origin} (record { long = short; here = here }))
@@ -55,6 +58,13 @@ made {l} n f e =
 -- ---- a part that is lent on: k points from point a on
 
 module _ {l : List ℤ} {n : ℕ} (whole : Whole l n) (a k : ℕ) (room : a + k ≤ n) where
+  -- The places of point a + p.
+  re-place : (p : ℕ) → a + a + (p + p) ≡ a + p + (a + p)
+  re-place p = omega arith
+
+  im-place : (p : ℕ) → a + a + suc (p + p) ≡ suc (a + p + (a + p))
+  im-place p = omega arith
+
   lent-points : Holds origin (midOf a k (points l)) k (λ p. getD (points l) (a + p) origin)
   lent-points = mid-holds origin a k (points l) (omega (arith, points-hold whole .long))
 
@@ -65,16 +75,13 @@ module _ {l : List ℤ} {n : ℕ} (whole : Whole l n) (a k : ℕ) (room : a + k 
   lent-whole = record { long = lent-numbers .long }
 
   pub lent-point : (p : ℕ) → p < k → point (midOf (a + a) (k + k) l) p ≡ point l (a + p)
-  lent-point p h =
-      let re : a + a + (p + p) ≡ a + p + (a + p) = omega arith in
-      let im : a + a + suc (p + p) ≡ suc (a + p + (a + p)) = omega arith in
-      same-parts (lent-numbers .here (p + p) (omega arith) ∙ ap (number l) re) (lent-numbers .here (suc (p + p)) (omega arith) ∙ ap (number l) im)
+  lent-point p h = same-parts (lent-numbers .here (p + p) (omega arith) ∙ ap (number l) (re-place p)) (lent-numbers .here (suc (p + p)) (omega arith) ∙ ap (number l) (im-place p))
 
   pub points-lent : points (midOf (a + a) (k + k) l) ≡ midOf a k (points l)
   points-lent = points-by lent-whole (lent-points .long) (λ p h. lent-points .here p h ∙ points-at whole (a + p) ∙ sym (lent-point p h))
 
-  pub lent-at : (λ p. getD (midOf a k (points l)) p origin) ≡ point (midOf (a + a) (k + k) l)
-  lent-at = rw (← points-lent) (λ i p. points-at lent-whole p i)
+  pub lent-read : (λ p. getD (midOf a k (points l)) p origin) ≡ point (midOf (a + a) (k + k) l)
+  lent-read = rw (← points-lent) (points-read lent-whole)
 
   -- It has come back.
   module _ {part : List ℤ} (same : Whole part k) where
@@ -97,10 +104,9 @@ module _ {l : List ℤ} {n : ℕ} (whole : Whole l n) (a k : ℕ) (room : a + k 
 
     among : (p : ℕ) → p < k → getD (putMid a k (points l) (points part)) (a + p) origin ≡ point (putMid (a + a) (k + k) l part) (a + p)
     among p g =
-        let re : a + a + (p + p) ≡ a + p + (a + p) = omega arith in
-        let im : a + a + suc (p + p) ≡ suc (a + p + (a + p)) = omega arith in
+        let back = putMid (a + a) (k + k) l part in
         put-inside origin a k (points l) inside (points part) (points-hold same .long) p g ∙ points-at same p
-        ∙ sym (same-parts (ap (number (putMid (a + a) (k + k) l part)) (sym re) ∙ numbers (p + p) (omega arith)) (ap (number (putMid (a + a) (k + k) l part)) (sym im) ∙ numbers (suc (p + p)) (omega arith)))
+        ∙ sym (same-parts (ap (number back) (sym (re-place p)) ∙ numbers (p + p) (omega arith)) (ap (number back) (sym (im-place p)) ∙ numbers (suc (p + p)) (omega arith)))
       where
         numbers : (q : ℕ) → q < k + k → number (putMid (a + a) (k + k) l part) (a + a + q) ≡ number part q
         numbers = put-inside (pos 0) (a + a) (k + k) l within part (same .long)

@@ -1,12 +1,12 @@
 -- Schedule 3 on a buffer of points: what each half is when it is lent on, and the buffer when it has come back.
 use Prim.Native.Nat.{ℕ, zero, suc, _+_, _*_, _/_, _^_, _<_, _≤_}
-use mathlib.Core.Path.{_≡_, refl, sym, ap, _∙_}
+use mathlib.Core.Path.{_≡_, refl, sym, _∙_}
 use mathlib.Core.Logic.{⊎-elim}
 use mathlib.Core.List.{List}
 use native.Mathlib.Nat.{two-pow-succ}
 use native.Mathlib.Omega.{arith}
 use lib.IntN.{ℤ}
-use lib.ListN.{length, getD}
+use lib.ListN.{length}
 use lib.Pow.{pow-pos, pow-mono}
 use borrow.Rule.Slice.PartMut.{midOf, putMid}
 use Rattle.answer.specs.Cases.{lt-or-ge}
@@ -18,15 +18,15 @@ use Rattle.points.specs.Interleaved.{point, points, interleaved}
 use Rattle.points.specs.Rounding.{half-up}
 use Rattle.points.specs.Steps.{rounded}
 use Rattle.runs.proofs.ByHalves.{Halved, halved, Halfway, halfway-none, halfway-next, halfway-all, halves-one}
-use Rattle.scans.specs.Scans.{Half}
-use Rattle.scans.proofs.Buffers.{origin, Whole, Made, made, points-hold, points-at, interleaved-points, lent-whole, lent-at, points-back, back-whole}
+use Rattle.scans.specs.Scans.{Halving}
+use Rattle.scans.proofs.Buffers.{origin, Whole, Made, made, points-hold, points-read, interleaved-points, lent-whole, lent-read, points-back, back-whole}
 use Rattle.scans.proofs.Sizes.{lent-scanned, stage-each, butterfly-tabled}
 
 -- The buffer has two halves of h points.
 abbrev pub Sizes : ℕ → List ℤ → List ℤ → ℕ → Type 0
 Sizes c t l h = Halved (length l / 2) (length t / 2) c h
 
-pub sizes : {c : ℕ} {t l : List ℤ} → Half c t l → 1 < length l / 2 → Sizes c t l (length l / 2 / 2)
+pub sizes : {c : ℕ} {t l : List ℤ} → Halving c t l → 1 < length l / 2 → Sizes c t l (length l / 2 / 2)
 sizes {c} {t} {l} half some = by (half .left) (half .power) (half .reach)
   where
     by : (n : ℕ) → length l ≡ 2 ^ n + 2 ^ n → c * 2 ^ n ≡ length t → Sizes c t l (length l / 2 / 2)
@@ -37,7 +37,7 @@ sizes {c} {t} {l} half some = by (half .left) (half .power) (half .reach)
         halved (suc n, long) (rw long (omega arith)) (omega arith)
 
 -- A half has a stage less before it.
-pub less : {c h : ℕ} {t l : List ℤ} (half : Half c t l) (k : Sizes c t l h) → k .log < half .left
+pub less : {c h : ℕ} {t l : List ℤ} (half : Halving c t l) (k : Sizes c t l h) → k .log < half .left
 less {h = h} {l = l} half k =
     ⊎-elim (λ g. g)
     (λ g.
@@ -60,7 +60,7 @@ module _ {c h o : ℕ} {t l₀ l : List ℤ} (r : Reached c t l₀ h o l) (k : S
   lent-long = rw (eb, eq) (lent-whole (r .whole) o h room .long)
 
   -- A half, before it is lent on.
-  pub half-lent : Half c t l₀ → Half (c + c) t (midOf b q l)
+  pub half-lent : Halving c t l₀ → Halving (c + c) t (midOf b q l)
   half-lent half =
       let pos : 0 < h = rw (k .power) (pow-pos (k .log)) in
       let size : 2 ^ half .left ≡ h + h = omega (arith, half .power, k .whole) in
@@ -89,7 +89,7 @@ module _ {c h o : ℕ} {t l₀ l : List ℤ} (r : Reached c t l₀ h o l) (k : S
         whole = back-whole (r .whole) o h room back;
         halfway = rw (points-back (r .whole) o h room back) (halfway-next (r .halfway) h refl room {part = points part} j o′ start end (λ n e.
             let long : length (midOf o h (points l)) ≡ h = mid-holds origin o h (points l) (omega (arith, points-hold (r .whole) .long)) .long in
-            rw (long, lent-at (r .whole) o h room) (ready n (sym long ∙ e) .held)));
+            rw (long, lent-read (r .whole) o h room) (ready n (sym long ∙ e) .held)));
       })
 
 -- Both halves have come back.
@@ -106,5 +106,4 @@ pub reached-one : (w : Wing Point) (l : List ℤ) (n : ℕ) → length l ≡ 2 ^
 reached-one w l n e none =
     let whole : Whole l (2 ^ n) = record { long = e } in
     let long : length (points l) ≡ 2 ^ n = points-hold whole .long in
-    let same : (λ p. getD (points l) p origin) ≡ point l = (λ i p. points-at whole p i) in
-    interleaved-points whole (holds (rw (long, same) at (halves-one origin w (points l) n long (omega arith))))
+    interleaved-points whole (holds (rw (long, points-read whole) at (halves-one origin w (points l) n long (omega arith))))

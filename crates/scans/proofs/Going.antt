@@ -1,11 +1,11 @@
 -- What a buffer of points holds while stage after stage is done.
-use Prim.Native.Nat.{ℕ, suc, _+_, _-_, _/_, _^_, _<_, _≤_}
+use Prim.Native.Nat.{ℕ, suc, _+_, _-_, _/_, _^_, _<_}
 use mathlib.Core.Path.{_≡_, sym, ap, _∙_}
 use mathlib.Core.List.{List}
 use native.Mathlib.Numerals.{add-one}
 use native.Mathlib.Omega.{arith}
 use lib.IntN.{ℤ}
-use lib.ListN.{length, getD}
+use lib.ListN.{length}
 use Rattle.answer.specs.Lists.{tabulate}
 use Rattle.fourier.specs.Sizes.{two-halves}
 use Rattle.fourier.specs.Schedules.{Stage, shuffle, step, run}
@@ -15,7 +15,7 @@ use Rattle.points.specs.Rounding.{half-up}
 use Rattle.points.specs.Steps.{rounded}
 use Rattle.points.specs.Growth.{grow}
 use Rattle.scans.specs.Scans.{Scanned}
-use Rattle.scans.proofs.Buffers.{origin, Whole, made, points-hold, points-at, interleaved-points}
+use Rattle.scans.proofs.Buffers.{origin, Whole, made, points-hold, points-read, interleaved-points}
 use Rattle.scans.proofs.Sizes.{Tabled, stage-sized, shuffle-tabled}
 
 -- A table of 2^n numbers has 2^(n-1) pairs.
@@ -39,12 +39,11 @@ module _ {n : ℕ} {t : List ℤ} {σ : ℕ → Stage} where
       let w = rounded half-up (point t) in
       let ready = made {l = l′} (2 ^ n) (step w (σ s) (point l)) e in
       let size : 2 ^ n ≡ length (points l) = sym (points-hold (r .whole) .long) in
-      let same : (λ p. getD (points l) p origin) ≡ point l = (λ i p. points-at (r .whole) p i) in
       let scanned : Scanned (grow (suc s)) t l′ = stage-sized s (r .scanned) tabled ready in
       record {
         whole = ready .whole;
         scanned = rw add-one scanned;
-        ran = ran-next (r .ran) within (ready .held ∙ ap (λ N. tabulate N (step w (σ s) (point l))) size ∙ ap (λ f. tabulate (length (points l)) (step w (σ s) f)) (sym same));
+        ran = ran-next (r .ran) within (ready .held ∙ ap (λ N. tabulate N (step w (σ s) (point l))) size ∙ ap (λ f. tabulate (length (points l)) (step w (σ s) f)) (sym (points-read (r .whole))));
       }
 
   -- All n stages are done.

@@ -6,7 +6,7 @@ use native.Mathlib.Nat.{mod-lt}
 use native.Mathlib.Omega.{arith}
 use lib.Dec.{lit<}
 use lib.IntN.{ℤ}
-use lib.ListN.{length, getD}
+use lib.ListN.{length}
 use borrow.Rule.Slice.PartMut.{midOf}
 use Rattle.answer.specs.Lists.{Holds, holds, holds-every}
 use Rattle.answer.proofs.Writes.{Written}
@@ -39,7 +39,7 @@ lent-scanned {a = a} scanned each whole r k b q room eb eq =
     rw (eb, eq)
     (lent, sized-by scanned lent (points-hold lent) (λ p h. rw (lent-point whole a k room p h ∙ sym (points-at whole (a + p)) ∙ r .left (a + p) (omega arith) (omega arith)) (each (a + p) (omega arith))))
 
--- The step keeps the sizes.
+-- The step keeps the sizes: `sized-kept`, for a table that has the pair t e alone.
 step-sized : (t : ℕ → Point) (s x e : ℕ) {a b : Point} → Turn (t e) → Sized (grow s) a → Sized (grow s) b → Sized (grow (suc s)) (rounded half-up t x e a b)
 step-sized t s zero e {a} {b} turn h g = sized-kept half-up-half 1 {t = λ _. t e} (record { each = λ _ _. turn }) s 0 0 a b a b (lit< tt) h g
 step-sized t s (suc x) e {a} {b} turn h g = sized-kept half-up-half 1 {t = λ _. t e} (record { each = λ _ _. turn }) s 1 0 a b a b (lit< tt) h g

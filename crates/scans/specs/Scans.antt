@@ -17,7 +17,7 @@ pub record Scanned (m : ℕ) (t l : List ℤ) : Type 0 where
 
 -- What schedule 3 asks of the buffer, and of a half that it comes to: 2^left points, with `past` stages behind them and `left` before them,
 -- twelve at most; exponents that count `stride` times reach through the table.
-pub record Half (stride : ℕ) (t l : List ℤ) : Type 0 where
+pub record Halving (stride : ℕ) (t l : List ℤ) : Type 0 where
   pub left : ℕ
   pub past : ℕ
   pub power : length l ≡ 2 ^ left + 2 ^ left

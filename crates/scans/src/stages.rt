@@ -29,13 +29,15 @@ pub fn block(buf: &mut [i32], table: &[i32], stride: usize, h: usize)
     ensures { λ _. ⌜ now (buf .exit) ≡ interleaved (h + h)
         (step (rounded half-up (point (now (table .entry)))) (butterfly stride h) (point (now (buf .entry)))) ⌝ }
 {
+    let mut e = 0;
     let mut i = 0;
     while i < h {
         let a = points::point_at(buf, i);
         let b = points::point_at(buf, i + h);
-        let parts = pair(a, b, table, stride * i);
+        let parts = pair(a, b, table, e);
         points::put_point(buf, i, parts.0);
         points::put_point(buf, i + h, parts.1);
+        e += stride;
         i += 1;
     }
 }
@@ -48,6 +50,7 @@ pub fn stage(buf: &mut [i32], table: &[i32], stride: usize, h: usize)
     ensures { λ _. ⌜ now (buf .exit) ≡ interleaved (stride * (h + h))
         (step (rounded half-up (point (now (table .entry)))) (butterfly stride h) (point (now (buf .entry)))) ⌝ }
 {
+    // The numbers of a block.
     let size = 4 * h;
     let mut base = 0;
     let mut j = 0;

@@ -1,5 +1,5 @@
 -- The buffer holds what schedule 1 has after s stages.
-use Prim.Native.Nat.{suc, _-_, _^_, _≤_}
+use Prim.Native.Nat.{suc, _-_, _≤_}
 use mathlib.Core.Path.{refl}
 use native.Mathlib.Omega.{arith}
 use lib.Pow.{pow-pos}
@@ -29,7 +29,7 @@ column-stage-requires c κs =
     let i = c .before in
     let g = i .before .loop .inv .1 in
     let s = i .before .before in
-    (scanned-most (i .before .loop .s) (g .scanned) (omega arith), (i .loop-test .taken, s .pre .1 .1, g .whole .long, s .pre .1 .3))
+    (scanned-most (i .before .loop .s) (g .scanned) (omega arith), (omega arith, s .pre .1 .1, g .whole .long, s .pre .1 .3))
 
 add-s : tie.Need-add-s Inv-loop μ-loop
 add-s c = search needs

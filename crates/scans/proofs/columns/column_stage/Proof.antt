@@ -1,5 +1,5 @@
 -- The sizes of the stage are powers of two.
-use Prim.Native.Nat.{suc, _-_, _^_}
+use Prim.Native.Nat.{suc, _-_}
 use mathlib.Core.Path.{_≡_, refl}
 use native.Mathlib.Omega.{arith}
 use Rattle.runs.proofs.Stages.{shifted, fits}
