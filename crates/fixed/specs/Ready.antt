@@ -7,7 +7,7 @@ use native.Mathlib.Omega.{arith}
 use lib.Dec.{ltb, leb, eqb}
 use lib.IntN.{ℤ, pos, negsuc, natAbs}
 use lib.ListN.{length}
-use lib.Signed.{leZ}
+use lib.Signed.{mag}
 use borrow.Author.Tests.{ltb-true, leb-true, eqb-true, eq-eqb}
 use Rattle.answer.specs.Choice.{refuse, done, unless-done, judged-done}
 use Rattle.answer.specs.Lengths.{log-of, power-permitted, permitted-log}
@@ -19,7 +19,7 @@ use Rattle.points.specs.Steps.{Sized, Turns}
 use Rattle.points.specs.Growth.{grow}
 use Rattle.scans.specs.Scans.{Scanned}
 use Rattle.sine.specs.Rules.{rule, Accepted, bad-pair, accepted-turns}
-use Rattle.fixed.specs.Verdicts.{points-log, permitted-length, in-range, ranged, bad-sample, scratch-fits, offers, transform-verdict}
+use Rattle.fixed.specs.Verdicts.{points-log, permitted-length, least, most, in-range, ranged, bad-sample, scratch-fits, offers, transform-verdict}
 
 -- ---- the lengths
 
@@ -51,8 +51,8 @@ power-points n some few =
 -- A number in the range is at most 32,768 in size.
 range-size : (z : ℤ) → in-range z ≡ true → natAbs z ≤ 32768
 unfolding in-range
-range-size (pos a) e = let h = leb-true a 32767 e in omega arith
-range-size (negsuc a) e = let h = leb-true a 32766 (and-eq-true-iff (leb a 32766) true .0 e .0) in omega arith
+range-size (pos a) e = let h = leb-true a (mag most) e in omega arith
+range-size (negsuc a) e = let h = leb-true a (mag least) (and-eq-true-iff (leb a (mag least)) true .0 e .0) in omega arith
 
 -- So are the parts of every point; behind the end they are 0.
 samples-sized : (buf : List ℤ) → ((q : ℕ) → q < length buf → ranged buf q ≡ true) → (p : ℕ) → Sized 32768 (point buf p)

@@ -12,7 +12,7 @@ use borrow.Author.Tests.{lt-ltb, eq-eqb}
 use Rattle.answer.specs.declared.Answer.{Answer}
 use Rattle.answer.specs.Choice.{refuse, refuse-at, done, judged-at, unless-done, done-left, unless-past, judged-past, judged-here, judged-number}
 use Rattle.answer.specs.Lists.{length-tabulate}
-use Rattle.answer.specs.Search.{FailsFirst, at-failed}
+use Rattle.answer.specs.Search.{Passed, FailsFirst, first-passed, at-failed}
 use Rattle.fourier.specs.Array.{frequency}
 use Rattle.fourier.specs.Embeddings.{straight}
 use Rattle.fourier.specs.Leaves.{Leaves, leaves1, leaves2, leaves3, agree}
@@ -24,8 +24,8 @@ use Rattle.points.specs.Steps.{rounded, unrounded, Sized}
 use Rattle.points.specs.Distance.{Near, results-near}
 use Rattle.points.specs.Growth.{results-sized}
 use Rattle.sine.specs.Rules.{rule, bad-pair}
-use Rattle.sine.specs.Sine.{sine-table}
-use Rattle.sine.specs.Calls.{FillOutcome, filled}
+use Rattle.sine.specs.Sine.{sine-table, sine-table-length}
+use Rattle.sine.specs.Calls.{FillOutcome, sine-table-done, filled}
 use Rattle.sine.specs.Beginnings.{beginning-bad, beginning-length}
 use Rattle.fixed.specs.Verdicts.{points-log, permitted-length, ranged, bad-sample, scratch-fits, offers, transform-verdict, reverse-verdict}
 use Rattle.fixed.specs.Outcomes.{by-schedule, transformed, TransformOutcome, reversed, ReverseOutcome}
@@ -129,10 +129,22 @@ module _ {schedule : ℕ} {buf table scratch buf′ scratch′ : List ℤ} where
 
 -- ---- our own tables
 
+length-permitted : (n : ℕ) → 1 ≤ n → n ≤ 12 → {l : ℕ} → l ≡ 2 ^ n + 2 ^ n → permitted-length l ≡ true
+length-permitted n some few e = rw (e, power-points n some few) (lt-ltb 0 n some)
+
 -- With a table that was filled the transform is never refused 4.
 pub transform-filled : {schedule p : ℕ} {before buf table scratch buf′ scratch′ : List ℤ} {a : Answer} → FillOutcome before a table → a .number ≡ 0 →
     TransformOutcome schedule buf table scratch (refuse-at 4 p) buf′ scratch′ → ⊥
 transform-filled {p = p} fill passed outcome = let first = transform-pair outcome in false≢true (sym (first .fails) ∙ filled fill passed .accepted .each p (first .within))
+
+-- With our own table whatever lies in the range is transformed.
+pub transform-done : (n : ℕ) → 1 ≤ n → n ≤ 12 → {schedule : ℕ} {buf scratch buf′ scratch′ : List ℤ} {answer : Answer} →
+    offers schedule ≡ true → length buf ≡ 2 ^ n + 2 ^ n → scratch-fits schedule (length scratch) (length buf) ≡ true → Passed (ranged buf) (length buf) →
+    TransformOutcome schedule buf (sine-table n) scratch answer buf′ scratch′ → answer ≡ done
+unfolding transform-verdict
+transform-done n some few {schedule} {buf} {scratch} offer long fits samples outcome =
+    let size : length (sine-table n) ≡ length buf / 2 = omega (arith, sine-table-length n some) in
+    outcome .answers ∙ rw (offer, length-permitted n some few long, fits, eq-eqb (length (sine-table n)) (length buf / 2) size, first-passed (sine-table-done n some few .accepted), first-passed samples)
 
 -- A longer table of our own whose beginning is taken for the table for N', N' at least 4: whatever the data, 4 at place N'/2.
 pub transform-beginning : (n n′ : ℕ) → 2 ≤ n′ → n′ < n → n ≤ 12 → {schedule : ℕ} {buf scratch buf′ scratch′ : List ℤ} {answer : Answer} →
@@ -142,6 +154,5 @@ unfolding transform-verdict
 transform-beginning n n′ two less few {schedule} {buf} {scratch} offer long fits outcome =
     let table = take (2 ^ n′) (sine-table n) in
     let some : 1 ≤ n′ = omega arith in
-    let permitted : permitted-length (length buf) ≡ true = rw (long, power-points n′ some (omega arith)) (lt-ltb 0 n′ some) in
     let size : length table ≡ length buf / 2 = omega (arith, beginning-length n n′ two less few) in
-    outcome .answers ∙ rw (offer, permitted, fits, eq-eqb (length table) (length buf / 2) size, beginning-bad n n′ two less few)
+    outcome .answers ∙ rw (offer, length-permitted n′ some (omega arith) long, fits, eq-eqb (length table) (length buf / 2) size, beginning-bad n n′ two less few)

@@ -23,8 +23,14 @@ abbrev pub permitted-length : ℕ → Bool
 permitted-length l = ltb 0 (points-log l)
 
 -- "A sample part lies from -32,767 to 32,767."
+abbrev pub least : ℤ
+least = negsuc 32766
+
+abbrev pub most : ℤ
+most = pos 32767
+
 unfoldable pub in-range : ℤ → Bool
-in-range z = leZ (negsuc 32766) z && leZ z (pos 32767)
+in-range z = leZ least z && leZ z most
 
 -- So it is of the number at place q.
 abbrev pub ranged : List ℤ → ℕ → Bool

@@ -4,6 +4,11 @@ use answer::Found;
 ghost use mathlib.Core.Path.{_≡_};
 ghost use Rattle.fixed.specs.Verdicts.{points-log, in-range, bad-sample, scratch-fits, offers, transform-verdict};
 
+// "A sample part lies from -32,767 to 32,767."
+const LEAST: i32 = -32767;
+
+const MOST: i32 = 32767;
+
 // The n of the N = 2^n points that `len` numbers are, or 0 where no permitted N has so many.
 pub fn points_log(len: usize) -> usize
     ensures { λ r. ⌜ r ≡ points-log len ⌝ }
@@ -18,10 +23,10 @@ pub fn points_log(len: usize) -> usize
 fn in_range(part: i32) -> bool
     ensures { λ r. ⌜ r ≡ in-range part ⌝ }
 {
-    if part < -32767 {
+    if part < LEAST {
         return false;
     }
-    part <= 32767
+    part <= MOST
 }
 
 // Refusal 5: the index of the first number outside the range, or the accepted mark.

@@ -11,9 +11,6 @@ use Rattle.points.proofs.Fits.{back}
 use Rattle.fixed.specs.Verdicts.{in-range, ranged}
 use Rattle.fixed.proofs.judging.judge_samples.Statement.{statement}
 use Rattle.fixed.proofs.judging.judge_samples.Tie as tie
-use Rattle.fixed.proofs.judging.judge_samples.Reads as reads
-use Rattle.fixed.proofs.judging.judge_samples.Lts as lts
-use Rattle.fixed.proofs.judging.in_range.Reads as in-range-reads
 
 abbrev Inv-loop : tie.InvT-loop
 Inv-loop buf index₀ index = (index ≤ length buf) × Passed (ranged buf) index

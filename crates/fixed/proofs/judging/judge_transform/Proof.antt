@@ -12,13 +12,6 @@ use Rattle.fixed.specs.Verdicts.{offers, permitted-length, scratch-fits,
 use Rattle.fixed.proofs.Tests.{long}
 use Rattle.fixed.proofs.judging.judge_transform.Statement.{statement}
 use Rattle.fixed.proofs.judging.judge_transform.Tie as tie
-use Rattle.fixed.proofs.judging.judge_transform.Reads as reads
-use Rattle.fixed.proofs.judging.judge_transform.Lts as lts
-use Rattle.fixed.proofs.judging.judge_samples.Reads as judge-samples-reads
-use Rattle.fixed.proofs.judging.offered.Reads as offered-reads
-use Rattle.fixed.proofs.judging.points_log.Reads as points-log-reads
-use Rattle.fixed.proofs.judging.scratch_fits.Reads as scratch-fits-reads
-use Rattle.sine.proofs.judge_table.Reads as judge-table-reads
 
 -- What the tests that were passed tell.
 schedule-offered : (c : tie.Else1) → offers (c .before .before .args .schedule) ≡ true

@@ -1,3 +1,4 @@
+-- By the two ends.
 use borrow.Author.Tests.{le-leb, lt-leb}
 use Rattle.fixed.specs.Verdicts.{offers}
 use Rattle.fixed.proofs.judging.offered.Statement.{statement}

@@ -1,3 +1,4 @@
+-- By the parity, and the half.
 use borrow.Author.Needs.{needs}
 use borrow.Author.Tests.{eq-eqb, ne-eqb}
 use Rattle.fixed.specs.Verdicts.{points-log}

@@ -1,3 +1,4 @@
+-- By the schedule.
 use borrow.Author.Tests.{ne-eqb}
 use Rattle.fixed.specs.Verdicts.{scratch-fits}
 use Rattle.fixed.proofs.judging.scratch_fits.Statement.{statement}

@@ -12,10 +12,6 @@ use Rattle.fixed.proofs.Swaps.{swapped-whole, swapped}
 use borrow.Author.Needs.{needs}
 use Rattle.fixed.proofs.reversing.exchange.Statement.{statement}
 use Rattle.fixed.proofs.reversing.exchange.Tie as tie
-use Rattle.fixed.proofs.reversing.exchange.Reads as reads
-use Rattle.fixed.proofs.reversing.exchange.Lts as lts
-use Rattle.fixed.proofs.reversing.swap.Reads as swap-reads
-use Rattle.runs.proofs.reversed.Reads as reversed-reads
 
 abbrev Inv-loop : tie.InvT-loop
 Inv-loop buf₀ n i₀ buf i = (i ≤ 2 ^ n) × Whole buf (2 ^ n) × Exchanged origin (points buf) (2 ^ n) i (rev n) (point buf₀)

@@ -1,3 +1,4 @@
+-- By the test of the length.
 use mathlib.Core.Path.{_≡_}
 use mathlib.Core.Bool.{true}
 use lib.ListN.{length}
@@ -7,10 +8,6 @@ use Rattle.fixed.specs.Ready.{permitted-points}
 use Rattle.fixed.proofs.Tests.{long}
 use Rattle.fixed.proofs.reversing.reverse.Statement.{statement}
 use Rattle.fixed.proofs.reversing.reverse.Tie as tie
-use Rattle.fixed.proofs.reversing.reverse.Reads as reads
-use Rattle.fixed.proofs.reversing.reverse.Lts as lts
-use Rattle.fixed.proofs.judging.points_log.Reads as points-log-reads
-use Rattle.fixed.proofs.reversing.exchange.Reads as exchange-reads
 
 -- The length that was passed.
 permitted : (c : tie.Else1) → permitted-length (length (c .before .before .args .buf .now)) ≡ true

@@ -2,10 +2,6 @@
 use borrow.Author.Needs.{needs}
 use Rattle.fixed.proofs.reversing.swap.Statement.{statement}
 use Rattle.fixed.proofs.reversing.swap.Tie as tie
-use Rattle.fixed.proofs.reversing.swap.Reads as reads
-use Rattle.fixed.proofs.reversing.swap.Lts as lts
-use Rattle.points.proofs.point_at.Reads as point-at-reads
-use Rattle.points.proofs.put_point.Reads as put-point-reads
 
 point-at-requires : tie.Need-point-at-requires
 point-at-requires c κs = search needs

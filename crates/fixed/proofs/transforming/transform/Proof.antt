@@ -1,3 +1,4 @@
+-- What was judged 0 is ready for the schedules, and a refusal writes nothing.
 use mathlib.Core.Path.{_≡_, sym, _∙_}
 use mathlib.Core.Bool.{true}
 use lib.ListN.{length}
@@ -8,11 +9,6 @@ use Rattle.fixed.specs.Verdicts.{offers, scratch-fits, transform-verdict
 use Rattle.fixed.specs.Ready.{Ready, transform-ready, ready-scanned, offers-range}
 use Rattle.fixed.proofs.transforming.transform.Statement.{statement}
 use Rattle.fixed.proofs.transforming.transform.Tie as tie
-use Rattle.fixed.proofs.transforming.transform.Reads as reads
-use Rattle.fixed.proofs.transforming.transform.Lts as lts
-use Rattle.fixed.proofs.judging.judge_transform.Reads as judge-transform-reads
-use Rattle.fixed.proofs.judging.points_log.Reads as points-log-reads
-use Rattle.fixed.proofs.working.do_schedule.Reads as do-schedule-reads
 
 -- What was judged.
 abbrev verdict : tie.After-judge-transform → Answer

@@ -1,3 +1,4 @@
+-- By the schedule: each leaves what its own definition says.
 use mathlib.Core.Path.{_≡_, _∙_}
 use native.Mathlib.Omega.{arith}
 use lib.ListN.{length}
@@ -8,11 +9,6 @@ use Rattle.fixed.specs.Verdicts.{scratch-fits}
 use Rattle.fixed.specs.Outcomes.{by-schedule, cleared}
 use Rattle.fixed.proofs.working.do_schedule.Statement.{statement}
 use Rattle.fixed.proofs.working.do_schedule.Tie as tie
-use Rattle.fixed.proofs.working.do_schedule.Reads as reads
-use Rattle.fixed.proofs.working.do_schedule.Lts as lts
-use Rattle.scans.proofs.by_columns.Reads as by-columns-reads
-use Rattle.scans.proofs.by_halves.Reads as by-halves-reads
-use Rattle.scans.proofs.by_shuffle.Reads as by-shuffle-reads
 
 -- Where no other schedule is left it is 3.
 three : (c : tie.Else2) → c .before .before .args .schedule ≡ 3
