@@ -1,7 +1,8 @@
 -- Document 01's bench values marked P, in one theorem about the definitions. They are about the steps before any reordering.
-use Prim.Native.Nat.{ℕ}
+use Prim.Native.Nat.{ℕ, _^_}
 use mathlib.Core.Path.{_≡_, refl}
-use mathlib.Core.List.{[], _∷_}
+use mathlib.Core.List.{List, [], _∷_}
+use lib.IntN.{ℤ, pos, negsuc, natAbs}
 use Rattle.answer.specs.Choice.{refuse-at, done}
 use Rattle.answer.specs.Search.{first}
 use Rattle.answer.specs.Lengths.{log-up-to, log-of}
@@ -15,6 +16,14 @@ use Rattle.residues.specs.Judgement.{below}
 use Rattle.modular.specs.Verdicts.{offers-stage, scratch-fits, lent-verdict, rest-verdict, accept-verdict, stage-verdict}
 use Rattle.modular.specs.Outcomes.{stage-of, staged}
 use Rattle.fourier.specs.Numbers.{fourier-mod, frequency-mod, time-mod, inverse-mod}
+use Rattle.points.specs.declared.Point.{Point}
+use Rattle.points.specs.Interleaved.{point, part, interleaved}
+use Rattle.points.specs.Rounding.{half-up}
+use Rattle.points.specs.Steps.{rounded, unrounded}
+use Rattle.points.specs.Distance.{distance, gap}
+use Rattle.sine.specs.Rules as fixed-rules
+use Rattle.sine.specs.Rules.{entry, starts, sized, follows, linked}
+use Rattle.sine.specs.Calls.{fixed-accept-verdict}
 
 -- m = 5, table 1 2, samples 1 2 3 4.
 abbrev table : ℕ → ℕ
@@ -35,6 +44,17 @@ one = at (1 ∷ [])
 
 abbrev two-samples : Buffer ℕ
 two-samples = at (2 ∷ 1 ∷ [])
+
+-- Fixed, N = 2: table (16,384, 0), samples (3,-1) (2,0).
+abbrev fixed-table : ℕ → Point
+fixed-table = point (pos 16384 ∷ pos 0 ∷ [])
+
+abbrev fixed-samples : Buffer Point
+fixed-samples = point (pos 3 ∷ negsuc 0 ∷ pos 2 ∷ pos 0 ∷ [])
+
+-- Fixed, N = 4: the table with the second pair (re, im).
+abbrev fixed-four : ℤ → ℤ → List ℤ
+fixed-four re im = pos 16384 ∷ pos 0 ∷ re ∷ im ∷ []
 
 bench :
     -- m = 5, table 1 2, samples 1 2 3 4. Sums in order; what schedules 1, 2, 3 and 5 leave
@@ -69,5 +89,54 @@ bench :
     × (staged 2 0 (1 ∷ 2 ∷ 3 ∷ 4 ∷ []) 5 (1 ∷ 2 ∷ []) ≡ 4 ∷ 3 ∷ 1 ∷ 1 ∷ [])
     -- reversal for N = 8
     × (tabulate 8 (rev 3) ≡ 0 ∷ 4 ∷ 2 ∷ 6 ∷ 1 ∷ 5 ∷ 3 ∷ 7 ∷ [])
-unfolding tabulate total rev butterfly shuffled run halves fourier-mod root wanted rule lookup back inverse-mod first log-up-to log-of permits below offers-stage scratch-fits lent-verdict rest-verdict accept-verdict stage-verdict stage-of
-bench = (refl, refl, refl, refl, refl, refl, refl, refl, refl, refl, refl, refl, refl, refl, refl, refl, refl, refl, refl, refl, refl, refl, refl, refl)
+    -- fixed, N = 2, samples (3,-1) (2,0): what schedules 1, 2 and 3 leave; the unrounded first pair; the distance 16,384 is reached
+    × (interleaved 2 (schedule1 1 Point (rounded half-up fixed-table) fixed-samples) ≡ pos 3 ∷ pos 0 ∷ pos 1 ∷ pos 0 ∷ [])
+    × (interleaved 2 (schedule2 1 Point (rounded half-up fixed-table) fixed-samples) ≡ pos 3 ∷ pos 0 ∷ pos 1 ∷ pos 0 ∷ [])
+    × (interleaved 2 (schedule3 1 Point (rounded half-up fixed-table) fixed-samples) ≡ pos 3 ∷ pos 0 ∷ pos 1 ∷ pos 0 ∷ [])
+    × (schedule1 1 Point (unrounded fixed-table) fixed-samples 0 ≡ record { re = pos 81920; im = negsuc 16383 })
+    × (natAbs (gap (2 ^ 15) (schedule1 1 Point (rounded half-up fixed-table) fixed-samples 0) (schedule1 1 Point (unrounded fixed-table) fixed-samples 0) .re) ≡ distance 1)
+    × (distance 1 ≡ 16384)
+    -- fixed tables for N = 4: second pair (0, 16,383) and (1, 16,384) accepted, (0, 16,385) and (2, 16,384) refused 4 at place 2
+    × (fixed-accept-verdict (pos 16384 ∷ pos 0 ∷ []) ≡ done)
+    × (fixed-accept-verdict (fixed-four (pos 0) (pos 16383)) ≡ done)
+    × (fixed-accept-verdict (fixed-four (pos 1) (pos 16384)) ≡ done)
+    × (fixed-accept-verdict (fixed-four (pos 0) (pos 16385)) ≡ refuse-at 4 2)
+    × (fixed-accept-verdict (fixed-four (pos 2) (pos 16384)) ≡ refuse-at 4 2)
+unfolding tabulate total rev butterfly shuffled run halves fourier-mod root wanted rule lookup back inverse-mod first log-up-to log-of permits below offers-stage scratch-fits lent-verdict rest-verdict accept-verdict stage-verdict stage-of part distance entry starts sized follows linked fixed-rules.rule fixed-accept-verdict
+bench = (
+  refl,
+  refl,
+  refl,
+  refl,
+  refl,
+  refl,
+  refl,
+  refl,
+  refl,
+  refl,
+  refl,
+  refl,
+  refl,
+  refl,
+  refl,
+  refl,
+  refl,
+  refl,
+  refl,
+  refl,
+  refl,
+  refl,
+  refl,
+  refl,
+  refl,
+  refl,
+  refl,
+  refl,
+  refl,
+  refl,
+  refl,
+  refl,
+  refl,
+  refl,
+  refl,
+)

@@ -4,7 +4,7 @@ use mathlib.Core.Path.{_≡_, sym, ap, _∙_}
 use mathlib.Core.List.{List}
 use native.Mathlib.Nat.{lt-of-lt-of-le, mul-lt-mul-of-pos-left, mul-le-mul-right, suc-mul, mod-lt}
 use native.Mathlib.Omega.{arith}
-use lib.ListN.{length, set}
+use lib.ListN.{length, getD, set}
 use borrow.Rule.Slice.PartMut.{midOf, putMid}
 use Rattle.answer.specs.Lists.{at, tabulate, Holds, holds, holds-every}
 use Rattle.answer.proofs.Pairs.{Paired, paired-next}
@@ -21,26 +21,27 @@ use Rattle.butterflies.specs.declared.Way.the-variants.{Frequency, Time,
 pub exponent-below : {stride i h k : ℕ} → 1 ≤ stride → i < h → stride * h ≤ k → stride * i < k
 exponent-below some l room = lt-of-lt-of-le (mul-lt-mul-of-pos-left l some) room
 
-module _ (w : Wing ℕ) (stride h : ℕ) where
-  pub block-next : {l : List ℕ} {i x y : ℕ} {f : Buffer ℕ} → Paired 0 l h i (step w (butterfly stride h) f) f → i < h →
-      x ≡ w 0 (stride * i) (at l i) (at l (i + h)) → y ≡ w 1 (stride * i) (at l i) (at l (i + h)) →
-      Paired 0 (set (set l i x) (i + h) y) h (i + 1) (step w (butterfly stride h) f) f
+-- For any carrier and step; z is what is read behind a list's end.
+module _ {C : Type 0} {z : C} (w : Wing C) (stride h : ℕ) where
+  pub block-next : {l : List C} {i : ℕ} {x y : C} {f : Buffer C} → Paired z l h i (step w (butterfly stride h) f) f → i < h →
+      x ≡ w 0 (stride * i) (getD l i z) (getD l (i + h) z) → y ≡ w 1 (stride * i) (getD l i z) (getD l (i + h) z) →
+      Paired z (set (set l i x) (i + h) y) h (i + 1) (step w (butterfly stride h) f) f
   block-next {l} {i} {f = f} r g ex ey =
       let old = r .left i g (omega arith) in
       paired-next r g (ex ∙ rw (old .low, old .high) (sym (block-low w stride h f i g))) (ey ∙ rw (old .low, old .high) (sym (block-high w stride h f i g)))
 
   -- Block j is written.
-  pub stage-next : {l part : List ℕ} {n a b : ℕ} {f : Buffer ℕ} → Written 0 l n a (step w (butterfly stride h) f) f → (j k : ℕ) → a ≡ j * (h + h) → k ≡ h + h → a + k ≤ n → b ≡ a + k →
-      part ≡ tabulate (h + h) (step w (butterfly stride h) (at (midOf a k l))) → Written 0 (putMid a k l part) n b (step w (butterfly stride h) f) f
+  pub stage-next : {l part : List C} {n a b : ℕ} {f : Buffer C} → Written z l n a (step w (butterfly stride h) f) f → (j k : ℕ) → a ≡ j * (h + h) → k ≡ h + h → a + k ≤ n → b ≡ a + k →
+      part ≡ tabulate (h + h) (step w (butterfly stride h) (λ p. getD (midOf a k l) p z)) → Written z (putMid a k l part) n b (step w (butterfly stride h) f) f
   stage-next {l} {part} {n} {a} {f = f} r j k ea ek room eb e =
       let long : length l ≡ n = r .long in
-      let mid = mid-holds 0 a k l (omega arith) in
-      let same : (q : ℕ) → q < h + h → at (midOf a k l) q ≡ f (j * (h + h) + q) =
-      (λ q g. mid .here q (omega arith) ∙ r .left (a + q) (omega arith) (omega arith) ∙ ap (λ z. f (z + q)) ea) in
-      let held : Holds 0 part (h + h) (step w (butterfly stride h) (at (midOf a k l))) = holds e in
-      let wrote : Holds 0 part k (λ p. step w (butterfly stride h) f (a + p)) = record {
+      let mid = mid-holds z a k l (omega arith) in
+      let same : (q : ℕ) → q < h + h → getD (midOf a k l) q z ≡ f (j * (h + h) + q) =
+      (λ q g. mid .here q (omega arith) ∙ r .left (a + q) (omega arith) (omega arith) ∙ ap (λ o. f (o + q)) ea) in
+      let held : Holds z part (h + h) (step w (butterfly stride h) (λ p. getD (midOf a k l) p z)) = holds e in
+      let wrote : Holds z part k (λ p. step w (butterfly stride h) f (a + p)) = record {
         long = held .long ∙ sym ek;
-        here = λ p g. held .here p (omega arith) ∙ block-shift w stride h j (at (midOf a k l)) f same p (omega arith) ∙ ap (λ z. step w (butterfly stride h) f (z + p)) (sym ea);
+        here = λ p g. held .here p (omega arith) ∙ block-shift w stride h j (λ q. getD (midOf a k l) q z) f same p (omega arith) ∙ ap (λ o. step w (butterfly stride h) f (o + p)) (sym ea);
       } in
       rw eb (written-part r k room wrote)
 

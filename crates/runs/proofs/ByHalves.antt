@@ -4,7 +4,7 @@ use mathlib.Core.Path.{_≡_, refl, sym, ap, _∙_}
 use mathlib.Core.List.{List}
 use native.Mathlib.Nat.{two-pow-succ, mul-le-mul-left}
 use native.Mathlib.Omega.{arith}
-use lib.ListN.{length}
+use lib.ListN.{length, getD}
 use lib.Pow.{pow-pos}
 use borrow.Rule.Slice.PartMut.{midOf, putMid}
 use Rattle.answer.specs.Lists.{at, tabulate, Holds, holds, listed, tabulate-self}
@@ -41,47 +41,48 @@ halved {N} {T} {stride} (suc n, e) reach some =
 
 -- ---- half after half
 
--- In front of place o stands what schedule 3 leaves, and from there on what its first stage leaves: w is the step, d the samples.
-pub record Halfway (w : Wing ℕ) (c h : ℕ) (d : Buffer ℕ) (o : ℕ) (l : List ℕ) : Type 0 where
-  pub written : (n : ℕ) → h ≡ 2 ^ n → Written 0 l (h + h) o (halves (strided c w) (suc n) d) (step w (butterfly c h) d)
+-- In front of place o stands what schedule 3 leaves, and from there on what its first stage leaves: w is the step, d the samples, z what is read behind
+-- the list's end.
+pub record Halfway {C : Type 0} (z : C) (w : Wing C) (c h : ℕ) (d : Buffer C) (o : ℕ) (l : List C) : Type 0 where
+  pub written : (n : ℕ) → h ≡ 2 ^ n → Written z l (h + h) o (halves (strided c w) (suc n) d) (step w (butterfly c h) d)
 
-module _ {w : Wing ℕ} {c h : ℕ} {d : Buffer ℕ} where
-  pub halfway-none : {l : List ℕ} → l ≡ tabulate (h + h) (step w (butterfly c h) d) → Halfway w c h d 0 l
+module _ {C : Type 0} {z : C} {w : Wing C} {c h : ℕ} {d : Buffer C} where
+  pub halfway-none : {l : List C} → l ≡ tabulate (h + h) (step w (butterfly c h) d) → Halfway z w c h d 0 l
   halfway-none e = record { written = λ n g. written-none (holds e) }
 
-  pub halfway-long : {l : List ℕ} {o N T : ℕ} → Halfway w c h d o l → Halved N T c h → length l ≡ h + h
+  pub halfway-long : {l : List C} {o N T : ℕ} → Halfway z w c h d o l → Halved N T c h → length l ≡ h + h
   halfway-long r sizes = r .written (sizes .log) (sizes .power) .long
 
-  module _ {l : List ℕ} {o : ℕ} (r : Halfway w c h d o l) (k : ℕ) (size : k ≡ h) (room : o + k ≤ h + h) where
+  module _ {l : List C} {o : ℕ} (r : Halfway z w c h d o l) (k : ℕ) (size : k ≡ h) (room : o + k ≤ h + h) where
     -- The half from place o on, before it is lent on.
-    lent : (n : ℕ) → h ≡ 2 ^ n → Holds 0 (midOf o k l) k (λ p. step w (butterfly c h) d (o + p))
+    pub lent : (n : ℕ) → h ≡ 2 ^ n → Holds z (midOf o k l) k (λ p. step w (butterfly c h) d (o + p))
     lent n e =
         let written = r .written n e in
         let long : length l ≡ h + h = written .long in
-        let mid = mid-holds 0 o k l (omega arith) in
+        let mid = mid-holds z o k l (omega arith) in
         record { long = mid .long; here = λ p g. mid .here p g ∙ written .left (o + p) (omega arith) (omega arith) }
 
     -- Half j has come back, and schedule 3 was done to it.
-    pub halfway-next : {part : List ℕ} (j o′ : ℕ) → o ≡ j * h → o′ ≡ o + k →
-        ((n : ℕ) → length (midOf o k l) ≡ 2 ^ n → part ≡ tabulate (length (midOf o k l)) (halves (strided (c + c) w) n (at (midOf o k l)))) → Halfway w c h d o′ (putMid o k l part)
+    pub halfway-next : {part : List C} (j o′ : ℕ) → o ≡ j * h → o′ ≡ o + k →
+        ((n : ℕ) → length (midOf o k l) ≡ 2 ^ n → part ≡ tabulate (length (midOf o k l)) (halves (strided (c + c) w) n (λ p. getD (midOf o k l) p z))) → Halfway z w c h d o′ (putMid o k l part)
     halfway-next {part} j o′ start end ensured = record {
       written = λ n e.
           let mid = lent n e in
-          let held : Holds 0 part k (halves (strided (c + c) w) n (at (midOf o k l))) = holds (rw (mid .long) at (ensured n (mid .long ∙ size ∙ e))) in
-          let same : (q : ℕ) → q < 2 ^ n → at (midOf o k l) q ≡ step w (butterfly c (2 ^ n)) d (j * 2 ^ n + q) = (λ q g. rw (← e, ← start) (mid .here q (omega arith))) in
+          let held : Holds z part k (halves (strided (c + c) w) n (λ p. getD (midOf o k l) p z)) = holds (rw (mid .long) at (ensured n (mid .long ∙ size ∙ e))) in
+          let same : (q : ℕ) → q < 2 ^ n → getD (midOf o k l) q z ≡ step w (butterfly c (2 ^ n)) d (j * 2 ^ n + q) = (λ q g. rw (← e, ← start) (mid .here q (omega arith))) in
           rw end
           (written-part (r .written n e) k room {part = part}
           (record {
             long = held .long;
             here = λ p g.
                 held .here p g
-                ∙ local (leaves3 n) ℕ (strided (c + c) w) (at (midOf o k l)) (λ q. step w (butterfly c (2 ^ n)) d (j * 2 ^ n + q)) same p (omega arith)
+                ∙ local (leaves3 n) C (strided (c + c) w) (λ p. getD (midOf o k l) p z) (λ q. step w (butterfly c (2 ^ n)) d (j * 2 ^ n + q)) same p (omega arith)
                 ∙ sym (halves-half w c n d j p (omega arith)) ∙ rw (start, e);
           }));
     }
 
 -- Both halves have come back.
-pub halfway-all : {w : Wing ℕ} {c h N : ℕ} {d : Buffer ℕ} {l : List ℕ} → Halfway w c h d (h + h) l → N ≡ h + h → 0 < h → (n : ℕ) → N ≡ 2 ^ n → l ≡ tabulate N (halves (strided c w) n d)
+pub halfway-all : {C : Type 0} {z : C} {w : Wing C} {c h N : ℕ} {d : Buffer C} {l : List C} → Halfway z w c h d (h + h) l → N ≡ h + h → 0 < h → (n : ℕ) → N ≡ 2 ^ n → l ≡ tabulate N (halves (strided c w) n d)
 halfway-all {N = N} r whole some zero e = absurd (let one : N ≡ 1 = e in omega arith)
 halfway-all {h = h} r whole some (suc n) e = rw whole (listed (written-all (r .written n (omega (arith, two-pow-succ n))) (omega arith)))
 
@@ -91,7 +92,7 @@ pub record Asked (m : ℕ) (t : List ℕ) (c h : ℕ) (l : List ℕ) : Type 0 wh
   pub long : length l ≡ h
   pub double : (c + c) * length l ≡ length t + length t
 
-pub half-asked : (way : Way) {m : ℕ} {t l₀ l : List ℕ} {c h o N : ℕ} {d : Buffer ℕ} → Judged m t l₀ → Halved N (length t) c h → Halfway (wing way m (length t) (at t)) c h d o l →
+pub half-asked : (way : Way) {m : ℕ} {t l₀ l : List ℕ} {c h o N : ℕ} {d : Buffer ℕ} → Judged m t l₀ → Halved N (length t) c h → Halfway 0 (wing way m (length t) (at t)) c h d o l →
     (k : ℕ) → k ≡ h → o + k ≤ h + h → Asked m t c h (midOf o k l)
 half-asked way {m} {t} judged sizes r k size room =
     let pos : 0 < m = omega arith in
@@ -103,7 +104,7 @@ half-asked way {m} {t} judged sizes r k size room =
     }
 
 -- A single place: nothing is done.
-pub halves-one : (w : Wing ℕ) (l : List ℕ) (n : ℕ) → length l ≡ 2 ^ n → length l / 2 ≤ 0 → l ≡ tabulate (length l) (halves w n (at l))
+pub halves-one : {C : Type 0} (z : C) (w : Wing C) (l : List C) (n : ℕ) → length l ≡ 2 ^ n → length l / 2 ≤ 0 → l ≡ tabulate (length l) (halves w n (λ p. getD l p z))
 unfolding halves
-halves-one w l zero e none = sym (tabulate-self 0 l)
-halves-one w l (suc n) e none = absurd (omega (arith, two-pow-succ n, pow-pos n))
+halves-one z w l zero e none = sym (tabulate-self z l)
+halves-one z w l (suc n) e none = absurd (omega (arith, two-pow-succ n, pow-pos n))

@@ -10,4 +10,5 @@ pub use columns::column_stage;
 pub use halves::by_halves;
 pub use inverse::invert;
 pub use reversal::reverse;
+pub use reversal::reversed;
 pub use thong::by_thong;

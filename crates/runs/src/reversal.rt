@@ -23,7 +23,7 @@ pub fn reverse(buf: &mut [u32], n: usize)
 }
 
 // "rev(j) is j with its n bits reversed."
-fn reversed(n: usize, j: usize) -> usize
+pub fn reversed(n: usize, j: usize) -> usize
     requires { ⌜ n ≤ 12 ⌝ }
     ensures { λ r. ⌜ r ≡ rev n j ⌝ }
 {

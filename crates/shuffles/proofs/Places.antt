@@ -16,14 +16,14 @@ use Rattle.butterflies.specs.declared.Way.{Way}
 use Rattle.butterflies.proofs.Going.{Going, going-next}
 use Rattle.shuffles.specs.Stages.{stages}
 
-module _ (w : Wing ℕ) (half : ℕ) (e : ℕ → ℕ) (d : Buffer ℕ) where
+module _ {C : Type 0} (w : Wing C) (half : ℕ) (e : ℕ → ℕ) (d : Buffer C) where
   -- What places 2k and 2k + 1 receive.
   place : (k x : ℕ) → x < 2 → step w (shuffled half e) d (2 * k + x) ≡ w x (e k) (d k) (d (k + half))
   place k x h = rw (shuffled-pair half e k x h)
 
   -- Pair k is done, at the exponent i.
-  pub pair-next : {l : List ℕ} {N k h i x y : ℕ} {f : Buffer ℕ} → Written 0 l N (2 * k) (step w (shuffled half e) d) f → 2 * k + 1 < N → h ≡ half → i ≡ e k →
-      x ≡ w 0 i (d k) (d (k + h)) → y ≡ w 1 i (d k) (d (k + h)) → Written 0 (set (set l (2 * k) x) (2 * k + 1) y) N (2 * (k + 1)) (step w (shuffled half e) d) f
+  pub pair-next : {z : C} {l : List C} {N k h i : ℕ} {x y : C} {f : Buffer C} → Written z l N (2 * k) (step w (shuffled half e) d) f → 2 * k + 1 < N → h ≡ half → i ≡ e k →
+      x ≡ w 0 i (d k) (d (k + h)) → y ≡ w 1 i (d k) (d (k + h)) → Written z (set (set l (2 * k) x) (2 * k + 1) y) N (2 * (k + 1)) (step w (shuffled half e) d) f
   pair-next {k = k} r room eh ei ex ey =
       let low = rw add-zero at (place k 0 (omega arith)) in
       let next : 2 * k + 1 + 1 ≡ 2 * (k + 1) = omega arith in

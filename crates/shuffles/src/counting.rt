@@ -20,7 +20,7 @@ pub fn next(way: Way, e: Exponent, k: usize, n: usize, s: usize) -> Exponent
 }
 
 // Schedule 2's "k - (k mod 2^s)".
-fn multiple(k: usize, s: usize) -> usize
+pub fn multiple(k: usize, s: usize) -> usize
     requires { ⌜ s < 64 ⌝ }
     ensures { λ r. ⌜ r ≡ k - k % 2 ^ s ⌝ }
 {

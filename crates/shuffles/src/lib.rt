@@ -5,6 +5,7 @@ mod stages;
 mod turns;
 
 pub use moves::copy;
+pub use counting::multiple;
 pub use turns::by_pease;
 pub use turns::by_shuffle;
 pub use turns::single;

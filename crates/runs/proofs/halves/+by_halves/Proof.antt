@@ -37,7 +37,7 @@ module _ (t : ℕ) where
   sizes c = let s = c .before .before .before in halved (s .pre .1 .1 .0) (s .pre .1 .1 .1 .1) (c .if1 .taken)
 
   abbrev Reached : lts.Then1 claims pre reads.Post → ℕ → List ℕ → Type 0
-  Reached c = let a = c .before .before .before .args in Halfway (frequency-mod (a .m .value) (length (a .table .now)) (at (a .table .now))) (a .stride) (half c) (at (a .buf .now))
+  Reached c = let a = c .before .before .before .args in Halfway 0 (frequency-mod (a .m .value) (length (a .table .now)) (at (a .table .now))) (a .stride) (half c) (at (a .buf .now))
 
   -- In front of the first half.
   begun : (c : lts.After-block claims pre reads.Post) → Reached (c .before .before) 0 (c .block .last .0)
@@ -123,7 +123,7 @@ module _ (t : ℕ) where
       halfway-all (ended (c .before .before)) (sizes (b .before .before) .whole) (b .before .before .if1 .taken)
 
   returns-2 : lts.Need-returns-2 claims pre reads.Post
-  returns-2 c = λ n e. halves-one _ _ n e (c .if1 .left)
+  returns-2 c = λ n e. halves-one 0 _ _ n e (c .if1 .left)
 
 pub +by-halves-spec : {M : Type 1} → statement M
 +by-halves-spec = close μ λ t. lts.spec (claims t) (pre t) reads.Post

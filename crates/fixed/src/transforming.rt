@@ -1,0 +1,19 @@
+// The transform.
+use crate::judging;
+use crate::working;
+use answer::Answer;
+ghost use Rattle.fixed.specs.Outcomes.{TransformOutcome};
+
+// The transform of buf by the schedule, with the table: 7, 1, 6, 3, 4, 5.
+pub fn transform(schedule: u32, buf: &mut [i32], table: &[i32], scratch: &mut [i32]) -> Answer
+    ensures { λ r. ⌜ TransformOutcome schedule (now (buf .entry)) (now (table .entry)) (now (scratch .entry))
+        r (now (buf .exit)) (now (scratch .exit)) ⌝ }
+{
+    let verdict = judging::judge_transform(schedule, &buf[..], table, scratch.len());
+    if verdict.number != 0 {
+        return verdict;
+    }
+    let n = judging::points_log(buf.len());
+    working::do_schedule(schedule, buf, table, n, scratch);
+    verdict
+}

@@ -1,0 +1,6 @@
+-- Laws that serve proofs of code.
+pub mod Buffers
+pub mod Sizes
+pub mod Blocks
+pub mod Going
+pub mod ByHalves

@@ -1,0 +1,2 @@
+-- What the schedules in fixed point ask.
+pub mod Scans
