@@ -217,10 +217,9 @@ fn encode(part: &[i32], words: &mut [u32], p: usize) -> usize
 }
 
 fn unsigned(number: i32) -> u32 {
-    let wide = number as i64;
-    if wide < 0 {
-        (-1 - wide - wide) as u32
-    } else {
-        (wide + wide) as u32
+    if number < 0 {
+        let below = -1 - number;
+        return below as u32 * 2 + 1;
     }
+    number as u32 * 2
 }

@@ -2,11 +2,11 @@
 use borrow.Author.Needs.{needs}
 use Prim.Native.Nat.{_-_, _≤_}
 use lib.ListN.{length}
-use Rattle.requests.proofs.answer_all.Statement.{statement}
-use Rattle.requests.proofs.answer_all.Tie as tie
-use Rattle.requests.proofs.answer_all.Reads as reads
-use Rattle.requests.proofs.answer_all.Lts as lts
-use Rattle.requests.proofs.answer_one.Reads as answer-one-reads
+use Rattle.calls.proofs.answer_all.Statement.{statement}
+use Rattle.calls.proofs.answer_all.Tie as tie
+use Rattle.calls.proofs.answer_all.Reads as reads
+use Rattle.calls.proofs.answer_all.Lts as lts
+use Rattle.calls.proofs.answer_one.Reads as answer-one-reads
 
 abbrev Inv-loop : tie.InvT-loop
 Inv-loop held p₀ p = p ≤ length held

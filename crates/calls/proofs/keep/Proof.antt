@@ -3,10 +3,10 @@ use borrow.Author.Needs.{needs}
 use mathlib.Core.Path.{_≡_}
 use Prim.Native.Nat.{_-_}
 use lib.ListN.{length}
-use Rattle.requests.proofs.keep.Statement.{statement}
-use Rattle.requests.proofs.keep.Tie as tie
-use Rattle.requests.proofs.keep.Reads as reads
-use Rattle.requests.proofs.keep.Lts as lts
+use Rattle.calls.proofs.keep.Statement.{statement}
+use Rattle.calls.proofs.keep.Tie as tie
+use Rattle.calls.proofs.keep.Reads as reads
+use Rattle.calls.proofs.keep.Lts as lts
 
 abbrev Inv-loop : tie.InvT-loop
 Inv-loop memory₀ used held i₀ memory i = length memory ≡ length memory₀

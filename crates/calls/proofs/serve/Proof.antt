@@ -5,13 +5,13 @@ use lib.Seq.{length-take-le}
 use mathlib.Core.Path.{_≡_, sym}
 use Prim.Native.Nat.{_-_, _≤_}
 use lib.ListN.{length}
-use Rattle.requests.proofs.serve.Statement.{statement}
-use Rattle.requests.proofs.serve.Tie as tie
-use Rattle.requests.proofs.serve.Reads as reads
-use Rattle.requests.proofs.serve.Lts as lts
-use Rattle.requests.proofs.answer_all.Reads as answer-all-reads
-use Rattle.requests.proofs.fill.Reads as fill-reads
-use Rattle.requests.proofs.keep.Reads as keep-reads
+use Rattle.calls.proofs.serve.Statement.{statement}
+use Rattle.calls.proofs.serve.Tie as tie
+use Rattle.calls.proofs.serve.Reads as reads
+use Rattle.calls.proofs.serve.Lts as lts
+use Rattle.calls.proofs.answer_all.Reads as answer-all-reads
+use Rattle.calls.proofs.fill.Reads as fill-reads
+use Rattle.calls.proofs.keep.Reads as keep-reads
 
 abbrev Inv-loop : tie.InvT-loop
 Inv-loop memory₀ held₀ turns₀ memory held turns = (length memory ≡ length memory₀) × (held ≤ length memory₀)
