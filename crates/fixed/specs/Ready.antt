@@ -98,6 +98,7 @@ module _ {buf table : List ℤ} (r : Ready buf table) where
   unfolding grow
   ready-scanned = record { turns = accepted-turns (length table / 2) (point table) (r .accepted); each = r .sized }
 
+  -- The table's pair at every exponent.
   pub ready-turns : Turns (point table) (2 ^ (points-log (length buf) - 1))
   ready-turns =
       let half : length table / 2 ≡ 2 ^ (points-log (length buf) - 1) = omega (arith, r .long, two-halves (points-log (length buf)) (r .points .some)) in

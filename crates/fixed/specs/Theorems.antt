@@ -1,4 +1,5 @@
--- What a caller can cite of the outcomes of the calls in fixed point. Of accept and fill: `sine`.
+-- What a caller can cite of the outcomes of the calls in fixed point. Those of accept and fill stand in `sine`: a filled table is
+-- accepted, `filled-accepted`, and a longer table's beginning is not, `beginning-refused`.
 use Prim.Native.Nat.{ℕ, zero, suc, _+_, _-_, _/_, _^_, _<_, _≤_}
 use mathlib.Core.Path.{_≡_, refl, sym, ap, _∙_, subst}
 use mathlib.Core.Bool.{true, false≢true}
