@@ -1,9 +1,11 @@
 //! Self-checks: document 01's bench values, and the reading against itself.
 
 use crate::fixed::*;
-use crate::program::dft;
+use crate::program::{dft, number, numbers};
 use crate::random::Random;
 use crate::reading::*;
+use crate::scans::{self, folded, Call};
+use crate::tables::*;
 
 struct Checks {
     count: usize,
@@ -49,6 +51,8 @@ pub fn all() -> usize {
     }
     fixed_refusals(&mut checks);
     program(&mut checks);
+    lent_tables(&mut checks);
+    records(&mut checks);
     checks.count
 }
 
@@ -297,8 +301,7 @@ fn fill_refusals(checks: &mut Checks) {
 /// At one length: the sine table is accepted, three schedules agree, stay
 /// within the distance, and come near to the sum in floating point.
 fn fixed_length(checks: &mut Checks, n: usize) {
-    let mut table = vec![0; 1 << n];
-    checks.same("sines", fixed_fill(&mut table), DONE);
+    let table = sines(n);
     checks.same("sines accepted", fixed_accept(&table), DONE);
     let samples = Random::new(n as u64).parts(2 << n);
     let mut outcomes = Vec::new();
@@ -409,5 +412,76 @@ fn program(checks: &mut Checks) {
         (&[5, 1, 4, 1, 2, 1, 2, 3, 5], "5 3\n"),
     ] {
         checks.same("dft", dft(input).as_str(), wanted);
+    }
+}
+
+/// The searches find something, and what is lent as accepted is.
+fn lent_tables(checks: &mut Checks) {
+    let mut random = Random::new(5);
+    for n in [6, 8] {
+        checks.same("drifting", fixed_accept(&drifting(n)), DONE);
+        checks.good("drifting far", drifting(n)[1 << (n - 1)] < -(1 << (n - 3)));
+    }
+    for n in [3, 4] {
+        checks.same("others", others(n, &mut random).len(), 12);
+        checks.same("at the bound", at_the_bound(n, &mut random).len(), 4);
+    }
+    for n in [3, 4, 5] {
+        checks.same("closing", not_closing(n, &mut random).len(), 4);
+    }
+    checks.same("beyond", beyond_the_bound(3, &mut random).len(), 4);
+    for (second, difference) in [((1, 16383), 32768), ((0, 16385), 32769)] {
+        let table = [16384, 0, second.0, second.1];
+        checks.same("difference", difference_at(&table, 2), difference);
+    }
+}
+
+/// Reads a call as it was written.
+fn read_call(bytes: &[u8], place: &mut usize) -> Result<Call, Answer> {
+    let (call, schedule) = (number(bytes, place)?, number(bytes, place)?);
+    let lengths = numbers(bytes, place, 3)?;
+    let mut lent = Vec::new();
+    for length in lengths {
+        let read = numbers(bytes, place, length as usize)?;
+        // Twice a number, or one less than twice its size.
+        let signed = |u: u32| (u >> 1) as i32 ^ -((u & 1) as i32);
+        lent.push(read.into_iter().map(signed));
+    }
+    let mut next = || lent.remove(0).collect();
+    Ok(Call {
+        call,
+        schedule,
+        buf: next(),
+        table: next(),
+        scratch: next(),
+    })
+}
+
+/// The calls for the test program are read as they were meant, and every
+/// answer that a call has comes up.
+fn records(checks: &mut Checks) {
+    let ends = [0, -1, 1, i32::MAX, i32::MIN].map(folded);
+    checks.same("folded", ends, [0, 1, 2, u32::MAX - 1, u32::MAX]);
+    let calls = scans::all();
+    let bytes: Vec<u8> = calls.iter().flat_map(Call::bytes).collect();
+    let mut place = 0;
+    let read = |call: &Call| read_call(&bytes, &mut place).as_ref() == Ok(call);
+    checks.good("read as meant", calls.iter().all(read));
+    checks.same("nothing behind", place, bytes.len());
+    let small = |c: &Call| {
+        [&c.buf, &c.table, &c.scratch]
+            .iter()
+            .all(|p| p.len() <= 8200)
+    };
+    checks.good("lengths", calls.iter().all(small));
+    let transforms = [0, 1, 3, 4, 5, 6, 7];
+    let wanted: [&[u32]; 4] = [&[0, 3, 4], &transforms, &[0, 1], &[0, 3]];
+    for (call, numbers) in (1..).zip(wanted) {
+        let lines = calls.iter().filter(|c| c.call == call).map(Call::line);
+        let first = |line: String| line.split_once(' ').and_then(|(n, _)| n.parse().ok());
+        let mut found: Vec<u32> = lines.filter_map(first).collect();
+        found.sort();
+        found.dedup();
+        checks.same("answers of a call", &found[..], numbers);
     }
 }

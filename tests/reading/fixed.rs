@@ -29,22 +29,37 @@ fn rounded(v: i128, d: i128) -> i128 {
     (v + d / 2).div_euclid(d)
 }
 
+/// The pairs of a table; "T[N/2] stands for (-16,384, 0)".
+fn closed(table: &[i32]) -> Vec<Pair> {
+    let mut t = pairs(table);
+    t.push((-UNIT, 0));
+    t
+}
+
+/// By how much "T[i-1] times T[1] differs from 16,384 T[i]" in one part, the
+/// larger one.
+fn difference(t: &[Pair], i: usize) -> i128 {
+    let (re, im) = times(t[i - 1], t[1]);
+    let parts = (re - UNIT * t[i].0, im - UNIT * t[i].1);
+    parts.0.abs().max(parts.1.abs())
+}
+
+/// The same for a table's pair i, from 1 to N/2.
+pub fn difference_at(table: &[i32], i: usize) -> i128 {
+    difference(&closed(table), i)
+}
+
 /// "T[0] is (16,384, 0)"; "the imaginary part is at least 0, and the sizes of
 /// both parts sum to at most 23,171"; "for i from 1 to N/2, T[i-1] times T[1]
 /// differs from 16,384 T[i] by at most 32,768 in each part".
 fn first_failing_pair(table: &[i32]) -> Option<usize> {
-    let mut t = pairs(table);
-    let half = t.len();
-    // "T[N/2] stands for (-16,384, 0)"
-    t.push((-UNIT, 0));
+    let t = closed(table);
+    let half = t.len() - 1;
     let alone = |i: usize| {
         let (re, im) = t[i];
         (i > 0 || t[0] == (UNIT, 0)) && im >= 0 && re.abs() + im.abs() <= 23171
     };
-    let follows = |i: usize| {
-        let (re, im) = times(t[i - 1], t[1]);
-        (re - UNIT * t[i].0).abs() <= 32768 && (im - UNIT * t[i].1).abs() <= 32768
-    };
+    let follows = |i: usize| difference(&t, i) <= 32768;
     (0..=half).find(|&i| (i < half && !alone(i)) || (i > 0 && !follows(i)))
 }
 

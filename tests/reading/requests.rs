@@ -1,6 +1,7 @@
 //! Inputs for a test of `dft`, each with the line that it prints.
 
 use crate::check::{least_root, powers};
+use crate::inputs::{self, number, positions};
 use crate::program::{dft, seven_bit_groups};
 use crate::random::Random;
 use crate::reading::{house_row, power};
@@ -43,10 +44,7 @@ pub fn write(directory: &str) -> std::io::Result<String> {
         stdin.extend(input);
         stdout.push_str(&dft(input));
     }
-    std::fs::write(format!("{directory}/stdin"), &stdin)?;
-    std::fs::write(format!("{directory}/stdout"), &stdout)?;
-    let (count, read, printed) = (inputs.len(), stdin.len(), stdout.len());
-    Ok(format!("{count} inputs, {read} bytes, {printed} printed"))
+    inputs::write(directory, inputs.len(), &stdin, &stdout)
 }
 
 fn all() -> Vec<Vec<u8>> {
@@ -95,10 +93,6 @@ fn near_largest(n: usize) -> Root {
     moduli.find_map(found).expect("a modulus")
 }
 
-fn number(value: u32) -> Vec<u8> {
-    seven_bit_groups(u64::from(value))
-}
-
 /// The words with some of them spelt otherwise.
 fn changed(words: &[Vec<u8>], changes: &[(usize, &[u8])]) -> Vec<u8> {
     let mut words = words.to_vec();
@@ -106,11 +100,6 @@ fn changed(words: &[Vec<u8>], changes: &[(usize, &[u8])]) -> Vec<u8> {
         words[*position] = spelling.to_vec();
     }
     words.concat()
-}
-
-/// The first, a middle and the last position of so many from a start on.
-fn positions(start: usize, count: usize) -> [usize; 3] {
-    [start, start + count / 2, start + count - 1]
 }
 
 fn table_positions(n: usize) -> [usize; 3] {
