@@ -20,12 +20,14 @@ fn main() {
     let words: Vec<&str> = arguments.iter().map(String::as_str).collect();
     match words[..] {
         ["check"] => println!("{} checks, all good", check::all()),
-        ["requests", directory] => told(directory, requests::write(directory)),
-        ["scans", directory] => told(directory, scans::write(directory)),
+        ["calls", directory] => {
+            let mut records = requests::records();
+            records.join(scans::records());
+            told(directory, records.write(directory));
+        }
         _ => {
             eprintln!("reading check            run the self-checks");
-            eprintln!("reading requests DIR     write DIR/stdin and DIR/stdout, for `dft`");
-            eprintln!("reading scans DIR        the same, for the calls in fixed point");
+            eprintln!("reading calls DIR        write DIR/stdin and DIR/stdout, for the test program `calls`");
             exit(2);
         }
     }

@@ -1,7 +1,7 @@
 //! Inputs for a test of `dft`, each with the line that it prints.
 
 use crate::check::{least_root, powers};
-use crate::inputs::{self, number, positions};
+use crate::inputs::{number, positions, Records};
 use crate::program::{dft, seven_bit_groups};
 use crate::random::Random;
 use crate::reading::{house_row, power};
@@ -35,16 +35,14 @@ struct Requests {
     random: Random,
 }
 
-/// Writes DIR/stdin and DIR/stdout and reports their sizes.
-pub fn write(directory: &str) -> std::io::Result<String> {
-    let (mut stdin, mut stdout) = (Vec::new(), String::new());
-    let inputs = all();
-    for input in &inputs {
-        stdin.extend(seven_bit_groups(input.len() as u64));
-        stdin.extend(input);
-        stdout.push_str(&dft(input));
+/// The records of all requests, each behind call 0, and the lines that they print.
+pub fn records() -> Records {
+    let mut records = Records::default();
+    for input in all() {
+        let length = seven_bit_groups(input.len() as u64);
+        records.add(&[&[0], &length[..], &input].concat(), &dft(&input));
     }
-    inputs::write(directory, inputs.len(), &stdin, &stdout)
+    records
 }
 
 fn all() -> Vec<Vec<u8>> {
@@ -180,10 +178,7 @@ impl Requests {
     /// Every broken spelling at every kind of place, and the largest number.
     fn broken_numbers(&mut self) {
         let words = self.words(2, house_root(0, 3));
-        let mut positions = vec![0, 1, 2];
-        positions.extend(table_positions(3));
-        positions.extend(sample_positions(3));
-        for position in positions {
+        for position in 0..words.len() {
             for spelling in BROKEN {
                 self.add(changed(&words, &[(position, spelling)]));
             }
@@ -341,6 +336,10 @@ impl Requests {
         self.add([&longest[..], &[0x80]].concat());
         self.add(&longest[..longest.len() - 1]);
         self.add(longest);
+        let words = spelt(2, m, &powers(m, x, n), &samples);
+        for positions in [table_positions(n), sample_positions(n)] {
+            self.add(changed(&words, &[(positions[1], BROKEN[0])]));
+        }
         samples[1 << (n - 1)] = m;
         self.add(spelt(5, m, &powers(m, x, n), &samples).concat());
         let mut zeros = vec![5, 1, 4, 1, 2, 1, 2, 3, 4];

@@ -1,7 +1,7 @@
 //! Calls in fixed point for a test program, each with the line that is due.
 
 use crate::fixed::{fixed_accept, fixed_fill, fixed_reverse, fixed_transform};
-use crate::inputs::{self, number, positions};
+use crate::inputs::{number, positions, Records};
 use crate::random::Random;
 use crate::tables::*;
 
@@ -65,12 +65,13 @@ impl Call {
     }
 }
 
-/// Writes DIR/stdin and DIR/stdout and reports their sizes.
-pub fn write(directory: &str) -> std::io::Result<String> {
-    let calls = all();
-    let stdin: Vec<u8> = calls.iter().flat_map(Call::bytes).collect();
-    let stdout: String = calls.iter().map(Call::line).collect();
-    inputs::write(directory, calls.len(), &stdin, &stdout)
+/// The records of all calls in fixed point, and the lines that they print.
+pub fn records() -> Records {
+    let mut records = Records::default();
+    for call in all() {
+        records.add(&call.bytes(), &call.line());
+    }
+    records
 }
 
 struct Scans {

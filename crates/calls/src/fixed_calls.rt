@@ -158,7 +158,7 @@ fn decode(words: &[u32], part: &mut [i32])
 
 fn signed(word: u32) -> i32 {
     let half = (word / 2) as i32;
-    if word % 2 == 0 { half } else { -1 - half }
+    if word % 2 == 0 { half } else { !half }
 }
 
 fn called(
@@ -219,7 +219,7 @@ fn encode(part: &[i32], words: &mut [u32], p: usize) -> usize
 fn unsigned(number: i32) -> u32 {
     if number < 0 {
         let below = -1 - number;
-        return below as u32 * 2 + 1;
+        return (below as u32) << 1 | 1;
     }
-    number as u32 * 2
+    (number as u32) << 1
 }

@@ -4,8 +4,8 @@ mod moves;
 mod stages;
 mod turns;
 
-pub use moves::copy;
 pub use counting::multiple;
+pub use moves::copy;
 pub use turns::by_pease;
 pub use turns::by_shuffle;
 pub use turns::single;
