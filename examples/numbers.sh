@@ -1,14 +1,28 @@
 #!/bin/sh
 # Decimal numbers to dft's input and back. Numbers stand on standard input, with spaces or newlines between them:
-#     echo 5 1 4  1 2  1 2 3 4 | sh examples/numbers.sh pack | sh examples/dft.sh
+#     echo 5 1 4  1 2  1 2 3 4 | sh examples/numbers.sh pack | sh examples/program.sh target/bin/dft
 #     sh examples/numbers.sh unpack <file
 # dft's input is m, schedule, N, the table's N/2 entries and the N samples, each in groups of seven bits.
+set -f
+
+refuse() {
+    echo "numbers.sh: '$1' is not a decimal number below 2^32" >&2
+    exit 1
+}
+
+byte() {
+    printf "\\$(($1 / 64))$(($1 / 8 % 8))$(($1 % 8))"
+}
+
 pack() {
     while read -r line || [ -n "$line" ]; do
-        for number in $line; do
-            case $number in
-            *[!0-9]* | ???????????*) echo "numbers.sh: '$number' is not a number below 2^32" >&2; exit 1 ;;
+        for word in $line; do
+            case $word in
+            *[!0-9]*) refuse "$word" ;;
             esac
+            number=$word
+            while [ "${number#0}" != "$number" ] && [ "$number" != 0 ]; do number=${number#0}; done
+            [ "${#number}" -le 10 ] && [ "$number" -le 4294967295 ] || refuse "$word"
             while [ "$number" -ge 128 ]; do
                 byte $((number % 128 + 128))
                 number=$((number / 128))
@@ -16,10 +30,6 @@ pack() {
             byte "$number"
         done
     done
-}
-
-byte() {
-    printf "\\$(($1 / 64))$(($1 / 8 % 8))$(($1 % 8))"
 }
 
 unpack() {

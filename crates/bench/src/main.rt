@@ -1,5 +1,5 @@
-// Document 01's bench values through the calls. Each line has a call's number and place, and what stands in the buffer then. Those
-// marked P are theorems too, in specs/.
+// Document 01's bench values through the calls, but for the sums in order and for Pease's first stage, for which there is no call. A line
+// has a call's number and place and, where a short buffer was lent, what stands in it then. Those marked P are theorems too, in specs/.
 use answer::Answer;
 use libc::STDOUT_FILENO;
 ghost use mathlib.Core.Path.{_≡_};
@@ -13,6 +13,8 @@ fn main() {
     end();
     reversal();
     refusals();
+    fixed_two();
+    fixed_four();
 }
 
 // Number and place.
@@ -112,13 +114,62 @@ fn space() -> [u32; 8192]
 // N = 1 and 8,192; m = 4; sample 5 with m = 5.
 fn refusals() {
     io::write_all(STDOUT_FILENO, b"N = 1 and 8,192\n");
-    show(modular::reverse(&mut [0]));
-    end();
+    transform(1, &mut [0], 5, &[1, 2], &mut [0; 4]);
     let mut long = space();
-    show(modular::reverse(&mut long));
+    show(modular::transform(1, &mut long, 5, &[1, 2], &mut [0; 4]));
     end();
     io::write_all(STDOUT_FILENO, b"m = 4\n");
     transform(1, &mut [1, 2, 3, 4], 4, &[1, 2], &mut [0; 4]);
     io::write_all(STDOUT_FILENO, b"sample 5 with m = 5\n");
     transform(1, &mut [1, 2, 5, 4], 5, &[1, 2], &mut [0; 4]);
+}
+
+// A transform of N = 2 points: number and place, and whether the buffer is left as document 01 has it.
+fn fixed_transform(schedule: u32, buf: &mut [i32; 4], left: [i32; 4]) {
+    show(fixed::transform(schedule, buf, &[16384, 0], &mut [0; 4]));
+    let mut same = true;
+    let mut i = 0;
+    while i < 4 {
+        if buf[i] != left[i] {
+            same = false;
+        }
+        i += 1;
+    }
+    if same {
+        io::write_all(STDOUT_FILENO, b" as stated\n");
+    } else {
+        io::write_all(STDOUT_FILENO, b" otherwise\n");
+    }
+}
+
+fn fixed_accept(re: i32, im: i32) {
+    show(fixed::accept(&[16384, 0, re, im]));
+    end();
+}
+
+// N = 2.
+fn fixed_two() {
+    io::write_all(
+        STDOUT_FILENO,
+        b"fixed, N = 2, samples (3,-1) (2,0), schedules 1 to 3: (3,0) (1,0)\n",
+    );
+    fixed_transform(1, &mut [3, -1, 2, 0], [3, 0, 1, 0]);
+    fixed_transform(2, &mut [3, -1, 2, 0], [3, 0, 1, 0]);
+    fixed_transform(3, &mut [3, -1, 2, 0], [3, 0, 1, 0]);
+    io::write_all(STDOUT_FILENO, b"sample parts 32,767 and 32,768\n");
+    fixed_transform(1, &mut [32767, 0, 0, 0], [16384, 0, 16384, 0]);
+    fixed_transform(1, &mut [32768, 0, 0, 0], [32768, 0, 0, 0]);
+}
+
+// Tables for N = 4, by their second pair.
+fn fixed_four() {
+    io::write_all(
+        STDOUT_FILENO,
+        b"fixed tables for N = 4: (0, 16,383), (1, 16,384), (0, 16,385), (2, 16,384), (0, -16,384)\n",
+    );
+    fixed_accept(0, 16383);
+    fixed_accept(1, 16384);
+    fixed_accept(0, 16385);
+    fixed_accept(2, 16384);
+    fixed_accept(0, -16384);
 }

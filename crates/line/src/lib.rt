@@ -7,7 +7,7 @@ ghost use mathlib.Core.List.{_∷_, [], _++_};
 ghost use Prim.Native.Nat.{_+_, _*_, _≤_};
 ghost use lib.ListN.{length, take};
 ghost use Rattle.line.specs.Lines.{decimal, spaced, line};
-ghost use Rattle.line.specs.Outcomes.{Put, LineOutcome};
+ghost use Rattle.line.specs.Outcomes.{Stands, LineOutcome};
 
 // Answers the request as `dft` prints it: the line stands at the end of out, from the place that is answered on.
 pub fn respond(input: &[u8], out: &mut [u8; 86058]) -> usize
@@ -43,7 +43,7 @@ fn space() -> [u8; 86058]
 // Writes the whole line, of the first `count` results, at the end of out.
 pub fn put_line(out: &mut [u8], answer: Answer, results: &[u32], count: usize) -> usize
     requires { ⌜ (count ≤ length (now results)) × (42 + 21 * count ≤ length (now out)) ⌝ }
-    ensures { λ r. ⌜ Put (line (record { answer = answer; results = take count (now (results .entry)) })) (length (now (out .entry))) (now (out .entry))
+    ensures { λ r. ⌜ Stands (line (record { answer = answer; results = take count (now (results .entry)) })) (length (now (out .entry))) (now (out .entry))
         r (now (out .exit)) ⌝ }
 {
     let last = out.len() - 1;
@@ -56,7 +56,7 @@ pub fn put_line(out: &mut [u8], answer: Answer, results: &[u32], count: usize) -
 // Writes the results in front of place p, each with a space in front of it.
 fn put_results(out: &mut [u8], p: usize, results: &[u32]) -> usize
     requires { ⌜ (41 + 21 * length (now results) ≤ p) × (p ≤ length (now out)) ⌝ }
-    ensures { λ r. ⌜ Put (spaced (now (results .entry))) p (now (out .entry)) r (now (out .exit)) ⌝ }
+    ensures { λ r. ⌜ Stands (spaced (now (results .entry))) p (now (out .entry)) r (now (out .exit)) ⌝ }
 {
     let mut q = p;
     let mut i = results.len();
@@ -76,7 +76,7 @@ fn wide(v: u32) -> u64
 // Writes v in decimal in front of place p, with a space in front of it.
 fn put_spaced(out: &mut [u8], p: usize, v: u64) -> usize
     requires { ⌜ (21 ≤ p) × (p ≤ length (now out)) ⌝ }
-    ensures { λ r. ⌜ Put (32 ∷ decimal v) p (now (out .entry)) r (now (out .exit)) ⌝ }
+    ensures { λ r. ⌜ Stands (32 ∷ decimal v) p (now (out .entry)) r (now (out .exit)) ⌝ }
 {
     let q = put_decimal(out, p, v) - 1;
     out[q] = 32;
@@ -86,7 +86,7 @@ fn put_spaced(out: &mut [u8], p: usize, v: u64) -> usize
 // Writes v in decimal in front of place p.
 fn put_decimal(out: &mut [u8], p: usize, v: u64) -> usize
     requires { ⌜ (20 ≤ p) × (p ≤ length (now out)) ⌝ }
-    ensures { λ r. ⌜ Put (decimal v) p (now (out .entry)) r (now (out .exit)) ⌝ }
+    ensures { λ r. ⌜ Stands (decimal v) p (now (out .entry)) r (now (out .exit)) ⌝ }
 {
     let mut rest = v;
     let mut q = p;

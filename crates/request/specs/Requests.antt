@@ -34,7 +34,7 @@ unfoldable pub and-behind : Number → (ℕ → List ℕ) → List ℕ
 and-behind (Value v q) next = v ∷ next q
 and-behind (Fault p) next = []
 
--- Their values.
+-- Their values: n of them where none is at fault (`values-whole`).
 unfoldable pub values-at : ℕ → List ℕ → ℕ → List ℕ
 values-at zero s p = []
 values-at (suc n) s p = and-behind (number-at s p) (values-at n s)

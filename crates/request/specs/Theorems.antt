@@ -1,5 +1,5 @@
--- What holds of whatever `dft` prints, and what can matter of its input: the first 30,736 bytes. A permitted request is at most 30,735
--- bytes long, and the one behind them is a surplus byte.
+-- What holds of whatever `dft` prints, and what can matter of its input: the first 30,736 bytes. 6,147 numbers take
+-- at most 30,735 bytes, and the one behind them is a surplus byte.
 use Prim.Native.Nat.{ℕ, zero, suc, _+_, _*_, _/_, _<_, _≤_}
 use mathlib.Core.Path.{_≡_, refl, sym, _∙_, ap, ap₂}
 use mathlib.Core.Bool.{Bool, true, false, cond}
@@ -16,15 +16,12 @@ use Rattle.answer.specs.Lengths.{log-of, permitted-range}
 use Rattle.groups.specs.declared.Number.{Number}
 use Rattle.groups.specs.declared.Number.the-variants.{Value, Fault}
 use Rattle.groups.specs.Groups.{number-at}
-use Rattle.groups.specs.Theorems.{number-begun, number-near}
+use Rattle.groups.specs.Theorems.{clash, number-begun, number-near}
 use Rattle.modular.specs.Verdicts.{offers, permitted-length}
 use Rattle.modular.specs.Outcomes.{transformed}
 use Rattle.request.specs.declared.reading.Many.{Many}
 use Rattle.request.specs.declared.reading.Many.the-variants.{All, Broken}
 use Rattle.request.specs.Requests.{behind, many-at, and-behind, values-at, Printed, refused, refused-unless, follow, judged, with-both, with-table, with-head, asked, printed}
-
-clash : {X : Type 0} → _≡_ {A = ℕ} 0 1 → X
-clash h = absurd (omega arith)
 
 -- ---- several numbers
 
