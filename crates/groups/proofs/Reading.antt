@@ -1,5 +1,5 @@
 -- How the reader goes from byte to byte.
-use Prim.Native.Nat.{ℕ, zero, suc, _+_, _-_, _*_, _^_, _<_, _≤_}
+use Prim.Native.Nat.{ℕ, suc, _+_, _-_, _*_, _^_, _<_, _≤_}
 use mathlib.Core.Path.{_≡_, refl, sym, _∙_}
 use mathlib.Core.List.{List}
 use native.Mathlib.Nat.{mul-le-mul, mul-le-mul-left, pow-le-pow-right, pow-succ'}
@@ -7,8 +7,7 @@ use native.Mathlib.Omega.{arith}
 use native.Mathlib.Numerals.{add-one}
 use lib.ListN.{length}
 use Rattle.answer.specs.Lists.{at}
-use Rattle.groups.specs.declared.Number.{Number}
-use Rattle.groups.specs.declared.Number.the-variants.{Value, Fault}
+use Rattle.groups.specs.declared.Number.the-variants.{Fault}
 use Rattle.groups.specs.Groups.{whole, reading, number-at}
 use Rattle.groups.specs.Theorems.{reading-ended, reading-last, reading-more}
 

@@ -13,7 +13,6 @@ use lib.Dec.{ltb, eqb}
 use borrow.Author.Tests.{lt-ltb, le-ltb, ltb-true, ltb-false, eqb-true, eqb-false, leb-true, le-leb}
 use Rattle.answer.specs.Lists.{at}
 use Rattle.groups.specs.Bases.{base-one, base-more, base-every, base-less, base-enough}
-use Rattle.groups.specs.declared.Number.{Number}
 use Rattle.groups.specs.declared.Number.the-variants.{Value, Fault}
 use Rattle.groups.specs.declared.Put.the-variants.{Behind, NoRoom}
 use Rattle.groups.specs.Outcomes.{room, PutOutcome}

@@ -1,23 +1,22 @@
 -- The steps of a request, by what was read.
-use Prim.Native.Nat.{ℕ, zero, suc, _/_, _<_, _≤_}
-use mathlib.Core.Path.{_≡_, refl, sym, ap, _∙_}
-use mathlib.Core.Bool.{Bool, true, false, cond}
+use Prim.Native.Nat.{ℕ, _/_, _<_, _≤_}
+use mathlib.Core.Path.{_≡_, refl, sym, _∙_}
+use mathlib.Core.Bool.{true, false}
 use mathlib.Core.List.{List, [], _++_, append-nil}
 use native.Mathlib.Nat.{zero-add}
 use native.Mathlib.Omega.{arith}
 use lib.ListN.{length, drop}
 use lib.Seq.{sets, sets-eq, drop-length}
-use lib.Dec.{eqb}
-use borrow.Author.Tests.{le-leb, lt-leb, eq-eqb}
+use borrow.Author.Tests.{le-leb, lt-leb}
 use Rattle.answer.specs.declared.Answer.{Answer}
 use Rattle.answer.specs.Choice.{refuse, refuse-at, done-left, refused-left}
 use Rattle.answer.specs.Lists.{at}
-use Rattle.modular.specs.Verdicts.{offers, permitted-length, through-scratch, scratch-fits, lent-verdict, rest-verdict, transform-verdict}
-use Rattle.modular.specs.Outcomes.{TransformOutcome, transformed}
+use Rattle.modular.specs.Verdicts.{offers, permitted-length, transform-verdict}
+use Rattle.modular.specs.Outcomes.{TransformOutcome}
 use Rattle.request.specs.declared.reading.Many.the-variants.{All, Broken}
 use Rattle.request.specs.Requests.{Printed, many-at, values-at, refused, judged, with-both, with-table, with-head, asked, printed}
 use Rattle.request.specs.Outcomes.{Given}
-use Rattle.request.specs.Theorems.{values-whole, head-every}
+use Rattle.request.specs.Theorems.{values-whole, head-every, both-judged}
 
 abbrev pub answered : Printed → Answer
 answered r = r .answer
@@ -50,21 +49,6 @@ module _ (s : List ℕ) (m schedule N : ℕ) (table : List ℕ) (q : ℕ) where
     pub samples-whole : length s ≤ end → with-table s m schedule N table q ≡ with-both m schedule table (values-at N s q)
     unfolding with-table
     samples-whole h = simp (e, le-leb (length s) end h)
-
-room-fits : (schedule scratch N : ℕ) → scratch ≡ N → scratch-fits schedule scratch N ≡ true
-unfolding scratch-fits
-room-fits schedule scratch N e = by (through-scratch schedule)
-  where
-    by : (t : Bool) → cond t (eqb scratch N) true ≡ true
-    by true = eq-eqb scratch N e
-    by false = refl
-
--- "Then 2, 4 and 5 follow": of a table and samples of these lengths the transform judges nothing else.
-pub both-judged : (m schedule : ℕ) (table samples : List ℕ) (scratch : ℕ) → offers schedule ≡ true → permitted-length (length samples) ≡ true → length table ≡ length samples / 2 → scratch ≡ length samples →
-    transform-verdict schedule samples m table scratch ≡ judged m table samples
-unfolding transform-verdict rest-verdict lent-verdict judged
-both-judged m schedule table samples scratch offer long half room =
-    simp (offer, long, room-fits schedule scratch (length samples) room, eq-eqb (length table) (length samples / 2) half)
 
 -- What the transform answers and leaves of the samples is what is printed.
 pub samples-transformed : (s : List ℕ) (m schedule : ℕ) (table : List ℕ) (q : ℕ) (samples : List ℕ) {end : ℕ} {read scratch samples′ scratch′ : List ℕ} {answer : Answer} →
@@ -101,7 +85,7 @@ module _ (s : List ℕ) (m schedule p : ℕ) (table samples : List ℕ) (half : 
 
 empty-head : (s : List ℕ) (m schedule N p : ℕ) → (with-head s m schedule N p .answer .number ≡ 0 → ⊥) → with-head s m schedule N p .results ≡ []
 empty-head s m schedule N p =
-    head-every (λ r. (r .answer .number ≡ 0 → ⊥) → r .results ≡ []) (λ a z. refl)
+    head-every (λ r. (r .answer .number ≡ 0 → ⊥) → r .results ≡ []) (λ a l z. refl)
     s m schedule N p (λ table samples long half z. refused-left (judged m table samples) _ [] z)
 
 -- ---- the whole request

@@ -1,24 +1,24 @@
 -- What holds of whatever `dft` prints, and what can matter of its input: the first 30,736 bytes. 6,147 numbers take
 -- at most 30,735 bytes, and the one behind them is a surplus byte.
 use Prim.Native.Nat.{ℕ, zero, suc, _+_, _*_, _/_, _<_, _≤_}
-use mathlib.Core.Path.{_≡_, refl, sym, _∙_, ap, ap₂}
+use mathlib.Core.Path.{_≡_, refl, sym, _∙_, ap}
 use mathlib.Core.Bool.{Bool, true, false, cond}
 use mathlib.Core.List.{List, [], _∷_}
 use native.Mathlib.Omega.{arith}
 use lib.ListN.{length, take}
 use lib.Seq.{length-take-le}
 use lib.Dec.{leb, eqb}
-use borrow.Author.Tests.{ltb-true, lt-leb}
+use borrow.Author.Tests.{ltb-true, lt-leb, eq-eqb}
 use Rattle.answer.specs.declared.Answer.{Answer}
-use Rattle.answer.specs.Choice.{refuse-at}
+use Rattle.answer.specs.Choice.{refuse-at, done-left}
 use Rattle.answer.specs.Lists.{length-tabulate}
 use Rattle.answer.specs.Lengths.{log-of, permitted-range}
 use Rattle.groups.specs.declared.Number.{Number}
 use Rattle.groups.specs.declared.Number.the-variants.{Value, Fault}
 use Rattle.groups.specs.Groups.{number-at}
 use Rattle.groups.specs.Theorems.{clash, number-begun, number-near}
-use Rattle.modular.specs.Verdicts.{offers, permitted-length}
-use Rattle.modular.specs.Outcomes.{transformed}
+use Rattle.modular.specs.Verdicts.{offers, permitted-length, through-scratch, scratch-fits, lent-verdict, rest-verdict, transform-verdict}
+use Rattle.modular.specs.Outcomes.{transformed, cleared, TransformOutcome}
 use Rattle.request.specs.declared.reading.Many.{Many}
 use Rattle.request.specs.declared.reading.Many.the-variants.{All, Broken}
 use Rattle.request.specs.Requests.{behind, many-at, and-behind, values-at, Printed, refused, refused-unless, follow, judged, with-both, with-table, with-head, asked, printed}
@@ -56,14 +56,14 @@ unless-same true refusal x y h = h refl
 unless-same false refusal x y h = refl
 
 -- What holds of every refusal, and of what follows.
-module _ (P : Printed → Type 0) (none : (answer : Answer) → P (refused answer)) where
+module _ (P : Printed → Type 0) (none : (answer : Answer) → 1 ≤ answer .number → P (refused answer)) where
   follow-every : (many : Many) (next : ℕ → Printed) → ((q : ℕ) → many ≡ All q → P (next q)) → P (follow many next)
   follow-every (All q) next h = h q refl
-  follow-every (Broken p) next h = none (refuse-at 10 p)
+  follow-every (Broken p) next h = none (refuse-at 10 p) (omega arith)
 
-  unless-every : (b : Bool) (refusal : Answer) (next : Printed) → (b ≡ true → P next) → P (refused-unless b refusal next)
-  unless-every true refusal next h = h refl
-  unless-every false refusal next h = none refusal
+  unless-every : (b : Bool) (refusal : Answer) (next : Printed) → 1 ≤ refusal .number → (b ≡ true → P next) → P (refused-unless b refusal next)
+  unless-every true refusal next l h = h refl
+  unless-every false refusal next l h = none refusal l
 
   -- And of a table and samples of these lengths.
   pub head-every : (s : List ℕ) (m schedule N p : ℕ) → ((table samples : List ℕ) → length samples ≡ N → length table ≡ N / 2 → P (with-both m schedule table samples)) → P (with-head s m schedule N p)
@@ -71,7 +71,7 @@ module _ (P : Printed → Type 0) (none : (answer : Answer) → P (refused answe
   head-every s m schedule N p h =
       follow-every (many-at (N / 2) s p) _
       (λ q e. follow-every (many-at N s q) _
-      (λ end e′. unless-every (leb (length s) end) _ _
+      (λ end e′. unless-every (leb (length s) end) _ _ (omega arith)
       (λ t. h (values-at (N / 2) s p) (values-at N s q) (values-whole N s q end e′) (values-whole (N / 2) s p q e))))
 
   pub printed-every : ((m schedule : ℕ) (table samples : List ℕ) → offers schedule ≡ true → permitted-length (length samples) ≡ true → length table ≡ length samples / 2 → P (with-both m schedule table samples)) →
@@ -79,20 +79,65 @@ module _ (P : Printed → Type 0) (none : (answer : Answer) → P (refused answe
   unfolding printed asked
   printed-every h s =
       follow-every (many-at 3 s 0) _
-      (λ p e. unless-every (offers _) _ _
-      (λ o. unless-every (permitted-length _) _ _
+      (λ p e. unless-every (offers _) _ _ (omega arith)
+      (λ o. unless-every (permitted-length _) _ _ (omega arith)
       (λ l. head-every s _ _ _ p (λ table samples long half. h _ _ table samples o (rw long l) (rw long half)))))
 
 -- There are at most 4,096 results.
 pub results-few : (s : List ℕ) → length (printed s .results) ≤ 4096
 results-few =
-    printed-every (λ r. length (r .results) ≤ 4096) (λ a. omega arith)
+    printed-every (λ r. length (r .results) ≤ 4096) (λ a l. omega arith)
     (λ m schedule table samples o l half. either (eqb (judged m table samples .number) 0) (transformed schedule samples m table)
     (let range = permitted-range (length samples) (ltb-true 0 (log-of (length samples)) l) in rw length-tabulate (range .1)))
   where
     either : (t : Bool) (l : List ℕ) → length l ≤ 4096 → length (cond t l []) ≤ 4096
     either true l h = h
     either false l h = omega arith
+
+-- ---- a request that is answered 0 is a transform
+
+room-fits : (schedule scratch N : ℕ) → scratch ≡ N → scratch-fits schedule scratch N ≡ true
+unfolding scratch-fits
+room-fits schedule scratch N e = by (through-scratch schedule)
+  where
+    by : (t : Bool) → cond t (eqb scratch N) true ≡ true
+    by true = eq-eqb scratch N e
+    by false = refl
+
+-- "Then 2, 4 and 5 follow": of a table and samples of these lengths the transform judges nothing else.
+pub both-judged : (m schedule : ℕ) (table samples : List ℕ) (scratch : ℕ) → offers schedule ≡ true → permitted-length (length samples) ≡ true → length table ≡ length samples / 2 → scratch ≡ length samples →
+    transform-verdict schedule samples m table scratch ≡ judged m table samples
+unfolding transform-verdict rest-verdict lent-verdict judged
+both-judged m schedule table samples scratch offer long half room =
+    simp (offer, long, room-fits schedule scratch (length samples) room, eq-eqb (length table) (length samples / 2) half)
+
+-- Of some m, schedule, table and samples the transform answers 0 and leaves the results.
+pub record Transformed (r : Printed) : Type 0 where
+  pub m : ℕ
+  pub schedule : ℕ
+  pub table : List ℕ
+  pub samples : List ℕ
+  pub outcome : TransformOutcome schedule samples m table samples (r .answer) (r .results) (cleared schedule samples)
+
+-- So whatever is proved of transforms holds of it: its results are the Fourier sums of the samples (`transform-sums`).
+pub printed-transformed : (s : List ℕ) → printed s .answer .number ≡ 0 → Transformed (printed s)
+printed-transformed =
+    printed-every (λ r. r .answer .number ≡ 0 → Transformed r) (λ a l z. absurd (omega arith))
+    (λ m schedule table samples o l half z. record {
+      m = m;
+      schedule = schedule;
+      table = table;
+      samples = samples;
+      outcome = whole m schedule table samples (both-judged m schedule table samples (length samples) o l half refl) z;
+    })
+  where
+    whole : (m schedule : ℕ) (table samples : List ℕ) → transform-verdict schedule samples m table (length samples) ≡ judged m table samples → judged m table samples .number ≡ 0 →
+        TransformOutcome schedule samples m table samples (judged m table samples) (with-both m schedule table samples .results) (cleared schedule samples)
+    whole m schedule table samples e z = record {
+      answers = sym e;
+      leaves = rw e (done-left (judged m table samples) _ [] z ∙ sym (done-left (judged m table samples) _ samples z));
+      clears = rw e (sym (done-left (judged m table samples) _ samples z));
+    }
 
 -- ---- the beginning of an input, k bytes of it
 

@@ -1,5 +1,4 @@
 -- A byte in front of the digits.
-use borrow.Author.Needs.{needs}
 use native.Mathlib.Omega.{arith}
 use lib.ListN.{length-set}
 use Rattle.line.proofs.Puts.{put-length, space-room, put-space}

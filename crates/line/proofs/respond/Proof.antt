@@ -1,8 +1,6 @@
 -- The request's answer, and its results, which stand at the start of the memory lent to it.
 use borrow.Author.Needs.{needs}
 use native.Mathlib.Omega.{arith}
-use mathlib.Core.Path.{sym, ap, _∙_}
-use lib.ListN.{length}
 use Rattle.line.proofs.Puts.{memory-kept, results-fit, results-read}
 use Rattle.line.proofs.respond.Statement.{statement}
 use Rattle.line.proofs.respond.Tie as tie

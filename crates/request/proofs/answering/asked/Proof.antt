@@ -2,7 +2,6 @@
 use borrow.Author.Needs.{needs}
 use lib.Seq.{length-take-le}
 use native.Mathlib.Omega.{arith}
-use mathlib.Core.Path.{sym, _∙_}
 use borrow.Author.Tests.{ltb-true}
 use Rattle.answer.specs.Lengths.{log-of, permitted-range}
 use Rattle.modular.proofs.Tests.{passed, failed, long, short}

@@ -1,7 +1,6 @@
 -- The three numbers at the head, then the rest.
 use borrow.Author.Needs.{needs}
 use mathlib.Core.List.{[], _∷_}
-use native.Mathlib.Omega.{arith}
 use mathlib.Core.Path.{refl, sym, _∙_}
 use Rattle.request.proofs.Steps.{given-refused, head-broken, head-whole}
 use Rattle.request.proofs.answering.request.Statement.{statement}

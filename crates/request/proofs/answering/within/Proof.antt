@@ -1,7 +1,6 @@
 -- The beginnings of the memory are lent on, as long as they are used.
 use borrow.Author.Needs.{needs}
-use native.Mathlib.Omega.{arith}
-use mathlib.Core.Path.{sym, ap, _∙_}
+use mathlib.Core.Path.{sym, _∙_}
 use Prim.Native.Nat.{_/_}
 use lib.Seq.{length-take-le, take-at}
 use Rattle.request.proofs.answering.within.Statement.{statement}
