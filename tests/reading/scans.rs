@@ -392,7 +392,7 @@ impl Scans {
     }
 
     fn reversals(&mut self) {
-        let right = (1..=10).map(|n| 2 << n);
+        let right = (1..=12).map(|n| 2 << n);
         for length in right.chain([0, 1, 2, 3, 5, 6, 7, 10, 12, 24]) {
             self.reverse(distinct(length));
         }

@@ -102,8 +102,11 @@ bench :
     × (fixed-accept-verdict (fixed-four (pos 1) (pos 16384)) ≡ done)
     × (fixed-accept-verdict (fixed-four (pos 0) (pos 16385)) ≡ refuse-at 4 2)
     × (fixed-accept-verdict (fixed-four (pos 2) (pos 16384)) ≡ refuse-at 4 2)
+    -- a table for N = 8 whose third pair breaks the product rule and whose fourth has a wrong sign: the first of all is found
+    × (fixed-accept-verdict (pos 16384 ∷ pos 0 ∷ pos 11585 ∷ pos 11585 ∷ pos 10 ∷ pos 16384 ∷ negsuc 11584 ∷ negsuc 11584 ∷ []) ≡ refuse-at 4 2)
 unfolding tabulate total rev butterfly shuffled run halves fourier-mod root wanted rule lookup back inverse-mod first log-up-to log-of permits below offers-stage scratch-fits lent-verdict rest-verdict accept-verdict stage-verdict stage-of part distance entry starts sized follows linked fixed-rules.rule fixed-accept-verdict
 bench = (
+  refl,
   refl,
   refl,
   refl,

@@ -1,5 +1,5 @@
 // Document 01's bench values through the calls, but for the sums in order and for Pease's first stage, for which there is no call. A line
-// has a call's number and place and, where a short buffer was lent, what stands in it then. Those marked P are theorems too, in specs/.
+// has a call's number and place and, where a short buffer was lent, what stands in it then or, in fixed point, whether that is as stated. Those marked P are theorems too, in specs/.
 use answer::Answer;
 use libc::STDOUT_FILENO;
 ghost use mathlib.Core.Path.{_≡_};

@@ -1,6 +1,6 @@
 // Calls in fixed point. Behind the call stand the schedule, the lengths of buffer, table and scratch, and their numbers; v is written as 2v
 // when it is at least 0, and as -2v - 1 otherwise. The calls are 1 accept, 2 transform, 3 reverse, 4 fill; the line has what stands in
-// the buffer, the filled table and the scratch then, in the same coding.
+// the buffer then, and behind it in the filled table or else the scratch, in the same coding.
 use answer::Answer;
 use request::Many;
 ghost use mathlib.Core.Path.{_≡_};

@@ -8,5 +8,3 @@ mod stages;
 pub use columns::by_columns;
 pub use halves::by_halves;
 pub use shuffle::by_shuffle;
-pub use stages::block;
-pub use stages::stage;

@@ -1,5 +1,5 @@
 -- The calls that need a table alone: what they answer and leave, for every input, and that a filled table is accepted.
-use Prim.Native.Nat.{ℕ, _-_, _/_, _^_, _≤_}
+use Prim.Native.Nat.{ℕ, suc, _-_, _/_, _^_, _≤_}
 use mathlib.Core.Path.{_≡_, sym, ap, _∙_}
 use mathlib.Core.Bool.{true}
 use mathlib.Core.List.{List}
@@ -8,13 +8,13 @@ use lib.Dec.{ltb}
 use lib.IntN.{ℤ}
 use lib.ListN.{length}
 use borrow.Author.Tests.{ltb-true, lt-ltb}
-use Rattle.answer.specs.Choice.{refuse, done, unless, judged-at, if-done, unless-done, judged-done}
+use Rattle.answer.specs.Choice.{refuse, refuse-at, done, unless, judged-at, if-done, unless-done, unless-past, judged-done, judged-here}
 use Rattle.answer.specs.Lengths.{log-of, power-permitted, permitted-log}
-use Rattle.answer.specs.Search.{first-passed, nowhere-passed}
+use Rattle.answer.specs.Search.{FailsFirst, first-passed, nowhere-passed, at-failed}
 use Rattle.answer.specs.declared.Answer.{Answer}
 use Rattle.fourier.specs.Sizes.{two-halves}
 use Rattle.points.specs.Interleaved.{point}
-use Rattle.sine.specs.Rules.{Accepted, bad-pair}
+use Rattle.sine.specs.Rules.{rule, Accepted, bad-pair}
 use Rattle.sine.specs.Sine.{sine-table, sine-table-length, sine-table-accepted}
 
 -- ---- definitions
@@ -64,6 +64,13 @@ done-accepted {table} o e =
 pub accepted-done : {table : List ℤ} {answer : Answer} → AcceptOutcome table answer → AcceptedTable table → answer ≡ done
 unfolding fixed-accept-verdict
 accepted-done {table} o r = o .answers ∙ rw (lt-ltb 0 (log-of (length table)) (r .permitted), first-passed (r .accepted))
+
+-- The place of 4 is the first at which a rule fails.
+pub accept-pair : {p : ℕ} {table : List ℤ} → AcceptOutcome table (refuse-at 4 p) → FailsFirst (rule (length table / 2) (point table)) (suc (length table / 2)) p
+unfolding fixed-accept-verdict
+accept-pair {p} {table} o =
+    at-failed (rule (length table / 2) (point table)) (suc (length table / 2)) p
+    (judged-here 4 (bad-pair table) done p (λ z. omega arith) (unless-past (ltb 0 (log-of (length table))) (refuse 3) _ (λ z. omega arith) (sym (o .answers))))
 
 -- ---- theorems
 
