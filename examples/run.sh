@@ -1,7 +1,8 @@
 #!/bin/sh
 # Builds dft, runs it on document 01's example and on a scan of 4,096 points.
 cd "$(dirname "$0")/.." || exit 2
-rt check dft >/dev/null || exit 1
+echo 'proving and building dft; the first time this takes a minute or two'
+told=$(rt check dft 2>&1) || { echo "$told"; exit 1; }
 dft() {
     sh examples/numbers.sh pack | sh examples/program.sh target/bin/dft
 }
