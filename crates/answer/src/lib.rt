@@ -3,6 +3,7 @@ ghost use mathlib.Core.Path.{_≡_};
 ghost use Rattle.answer.specs.Lengths.{log-of, table-log};
 
 // What a call answers: document 01's number and place.
+#[repr(C)]
 pub struct Answer {
     pub number: u32,
     pub place: usize,

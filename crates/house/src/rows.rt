@@ -58,6 +58,7 @@ const ROOTS: [[u32; 12]; 3] = [
 ];
 
 // What a row yields.
+#[repr(C)]
 pub struct Yielded {
     pub answer: Answer,
     pub setting: Setting,

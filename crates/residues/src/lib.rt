@@ -11,6 +11,7 @@ ghost use Rattle.residues.specs.Moduli.{permits, Permitted};
 ghost use Rattle.residues.specs.Judgement.{Below, bad-entry, bad-sample};
 
 // A value modulo m.
+#[repr(C)]
 pub struct Residue(pub u32);
 
 // An exponent of the root. Only `lookup` leads from an exponent to a residue.

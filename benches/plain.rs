@@ -1,0 +1,188 @@
+// The schedules as an ordinary Rust programmer writes them: the same step, m given at run time, nothing judged.
+
+pub mod modular {
+    fn plus(a: u32, b: u32, m: u32) -> u32 {
+        let sum = a + b;
+        if sum < m { sum } else { sum - m }
+    }
+
+    fn minus(a: u32, b: u32, m: u32) -> u32 {
+        if a < b { a + (m - b) } else { a - b }
+    }
+
+    fn times(a: u32, b: u32, m: u32) -> u32 {
+        (a as u64 * b as u64 % m as u64) as u32
+    }
+
+    // The sum, and t times the difference, on the pairs of a block.
+    fn block(buf: &mut [u32], table: &[u32], m: u32, stride: usize) {
+        let h = buf.len() / 2;
+        let (low, high) = buf.split_at_mut(h);
+        for ((p, q), t) in low.iter_mut().zip(high).zip(table.iter().step_by(stride)) {
+            let (a, b) = (*p, *q);
+            *p = plus(a, b, m);
+            *q = times(*t, minus(a, b, m), m);
+        }
+    }
+
+    #[inline(never)]
+    pub fn columns(buf: &mut [u32], m: u32, table: &[u32], _: &mut [u32]) {
+        let mut stride = 1;
+        while stride < buf.len() {
+            for part in buf.chunks_exact_mut(table.len() * 2 / stride) {
+                block(part, table, m, stride);
+            }
+            stride *= 2;
+        }
+    }
+
+    #[inline(never)]
+    pub fn shuffle(buf: &mut [u32], m: u32, table: &[u32], scratch: &mut [u32]) {
+        let n = buf.len().trailing_zeros();
+        let half = table.len();
+        let (mut from, mut to) = (&mut *buf, &mut *scratch);
+        for s in 0..n {
+            let (low, high) = from.split_at(half);
+            for (k, (pair, (&a, &b))) in to.chunks_exact_mut(2).zip(low.iter().zip(high)).enumerate() {
+                pair[0] = plus(a, b, m);
+                pair[1] = times(table[k >> s << s], minus(a, b, m), m);
+            }
+            std::mem::swap(&mut from, &mut to);
+        }
+        if n % 2 == 1 {
+            to.copy_from_slice(from);
+        }
+        scratch.fill(0);
+    }
+
+    #[inline(never)]
+    pub fn halves(buf: &mut [u32], m: u32, table: &[u32], _: &mut [u32]) {
+        halve(buf, m, table, 1);
+    }
+
+    fn halve(buf: &mut [u32], m: u32, table: &[u32], stride: usize) {
+        if buf.len() < 2 {
+            return;
+        }
+        block(buf, table, m, stride);
+        let (low, high) = buf.split_at_mut(buf.len() / 2);
+        halve(low, m, table, 2 * stride);
+        halve(high, m, table, 2 * stride);
+    }
+
+    #[inline(never)]
+    pub fn thong(buf: &mut [u32], m: u32, table: &[u32], _: &mut [u32]) {
+        let mut h = 1;
+        while h < buf.len() {
+            for part in buf.chunks_exact_mut(2 * h) {
+                let (low, high) = part.split_at_mut(h);
+                for ((p, q), t) in low.iter_mut().zip(high).zip(table.iter().step_by(table.len() / h)) {
+                    let (a, b) = (*p, times(*t, *q, m));
+                    *p = plus(a, b, m);
+                    *q = minus(a, b, m);
+                }
+            }
+            h *= 2;
+        }
+    }
+
+    #[inline(never)]
+    pub fn pease(buf: &mut [u32], m: u32, table: &[u32], scratch: &mut [u32]) {
+        let n = buf.len().trailing_zeros();
+        let half = table.len();
+        let (mut from, mut to) = (&mut *buf, &mut *scratch);
+        for t in 0..n {
+            let (low, high) = from.split_at(half);
+            for (l, (pair, (&a, &b))) in to.chunks_exact_mut(2).zip(low.iter().zip(high)).enumerate() {
+                // N/2^(t+1) times the reversal of the low t bits of l
+                let e = ((l as u64 & ((1 << t) - 1)).reverse_bits() >> (65 - n)) as usize;
+                let c = times(table[e], b, m);
+                pair[0] = plus(a, c, m);
+                pair[1] = minus(a, c, m);
+            }
+            std::mem::swap(&mut from, &mut to);
+        }
+        if n % 2 == 1 {
+            to.copy_from_slice(from);
+        }
+        scratch.fill(0);
+    }
+}
+
+pub mod fixed {
+    fn part(c: i32, x: i32, d: i32, y: i32) -> i32 {
+        ((c as i64 * x as i64 + d as i64 * y as i64 + 16384) >> 15) as i32
+    }
+
+    // (a + b)/2 and T(a - b)/32,768.
+    fn step(a: [i32; 2], b: [i32; 2], t: [i32; 2]) -> ([i32; 2], [i32; 2]) {
+        let (x, y) = (a[0] - b[0], a[1] - b[1]);
+        (
+            [(a[0] + b[0] + 1) >> 1, (a[1] + b[1] + 1) >> 1],
+            [part(t[0], x, t[1], -y), part(t[0], y, t[1], x)],
+        )
+    }
+
+    fn points(buf: &[i32]) -> &[[i32; 2]] {
+        buf.as_chunks().0
+    }
+
+    fn points_mut(buf: &mut [i32]) -> &mut [[i32; 2]] {
+        buf.as_chunks_mut().0
+    }
+
+    fn block(buf: &mut [[i32; 2]], table: &[[i32; 2]], stride: usize) {
+        let h = buf.len() / 2;
+        let (low, high) = buf.split_at_mut(h);
+        for ((p, q), t) in low.iter_mut().zip(high).zip(table.iter().step_by(stride)) {
+            (*p, *q) = step(*p, *q, *t);
+        }
+    }
+
+    #[inline(never)]
+    pub fn columns(buf: &mut [i32], table: &[i32], _: &mut [i32]) {
+        let (buf, table) = (points_mut(buf), points(table));
+        let mut stride = 1;
+        while stride < buf.len() {
+            for part in buf.chunks_exact_mut(table.len() * 2 / stride) {
+                block(part, table, stride);
+            }
+            stride *= 2;
+        }
+    }
+
+    #[inline(never)]
+    pub fn shuffle(buf: &mut [i32], table: &[i32], scratch: &mut [i32]) {
+        let table = points(table);
+        let n = table.len().trailing_zeros() + 1;
+        {
+            let (mut from, mut to) = (points_mut(buf), points_mut(scratch));
+            for s in 0..n {
+                let (low, high) = from.split_at(table.len());
+                for (k, (pair, (&a, &b))) in to.chunks_exact_mut(2).zip(low.iter().zip(high)).enumerate() {
+                    (pair[0], pair[1]) = step(a, b, table[k >> s << s]);
+                }
+                std::mem::swap(&mut from, &mut to);
+            }
+            if n % 2 == 1 {
+                to.copy_from_slice(from);
+            }
+        }
+        scratch.fill(0);
+    }
+
+    #[inline(never)]
+    pub fn halves(buf: &mut [i32], table: &[i32], _: &mut [i32]) {
+        halve(points_mut(buf), points(table), 1);
+    }
+
+    fn halve(buf: &mut [[i32; 2]], table: &[[i32; 2]], stride: usize) {
+        if buf.len() < 2 {
+            return;
+        }
+        block(buf, table, stride);
+        let (low, high) = buf.split_at_mut(buf.len() / 2);
+        halve(low, table, 2 * stride);
+        halve(high, table, 2 * stride);
+    }
+}
