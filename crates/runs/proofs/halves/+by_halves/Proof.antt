@@ -1,4 +1,4 @@
--- Schedule 3 is the block of its first stage, and then itself on either half: the length falls.
+-- Schedule 3 is its first stage, and then itself on either half: the length falls.
 use Prim.Native.Nat.{ℕ, _+_, _-_, _/_, _<_}
 use mathlib.Core.Path.{_≡_, refl, sym, _∙_}
 use mathlib.Core.List.{List, _++_}
@@ -11,7 +11,7 @@ use borrow.Fn.PlainCycle.{Measures, is, falls, and}
 use Rattle.answer.specs.Lists.{at}
 use Rattle.fourier.specs.Numbers.{frequency-mod}
 use Rattle.butterflies.specs.declared.Way.the-variants.{Frequency}
-use Rattle.butterflies.proofs.block.Reads as block-reads
+use Rattle.runs.proofs.halves.first_stage.Reads as first-stage-reads
 use Rattle.runs.proofs.ByHalves.{Halved, halved, Halfway, halfway-none, halfway-long, halfway-next, halfway-all, half-asked, halves-one}
 use Rattle.runs.proofs.halves.by_halves.Reads as reads
 use Rattle.runs.proofs.halves.by_halves.Kinds as kinds
@@ -27,7 +27,7 @@ module _ (t : ℕ) where
   pre = and 2 kinds.ps (is 2 kinds.ps μ t) reads.Pre
 
   abbrev claims : lts.Claims
-  claims = (block-reads.Asked, block-reads.Learnt, and 2 kinds.ps (falls 2 kinds.ps _<_ μ t) reads.Pre, reads.Post)
+  claims = (first-stage-reads.Asked, first-stage-reads.Learnt, and 2 kinds.ps (falls 2 kinds.ps _<_ μ t) reads.Pre, reads.Post)
 
   -- The sizes of the halves.
   abbrev half : lts.Then1 claims pre reads.Post → ℕ
@@ -40,27 +40,27 @@ module _ (t : ℕ) where
   Reached c = let a = c .before .before .before .args in Halfway 0 (frequency-mod (a .m .value) (length (a .table .now)) (at (a .table .now))) (a .stride) (half c) (at (a .buf .now))
 
   -- In front of the first half.
-  begun : (c : lts.After-block claims pre reads.Post) → Reached (c .before .before) 0 (c .block .last .0)
-  begun c = halfway-none (c .block .ensures)
+  begun : (c : lts.After-first-stage claims pre reads.Post) → Reached (c .before .before) 0 (c .first-stage .last .0)
+  begun c = halfway-none (c .first-stage .ensures)
 
   -- In front of the second.
-  abbrev block-of : lts.After-by-halves claims pre reads.Post → lts.After-block claims pre reads.Post
-  block-of c = c .before .before .before .before
+  abbrev stage-of : lts.After-by-halves claims pre reads.Post → lts.After-first-stage claims pre reads.Post
+  stage-of c = c .before .before .before .before
 
   abbrev back : lts.After-by-halves claims pre reads.Post → List ℕ
-  back c = let b = block-of c in c .by-halves .last .0 ++ drop (half (b .before .before)) (b .block .last .0)
+  back c = let b = stage-of c in c .by-halves .last .0 ++ drop (half (b .before .before)) (b .first-stage .last .0)
 
   abbrev rest : lts.After-by-halves claims pre reads.Post → ℕ
-  rest c = length (back c) - half (block-of c .before .before)
+  rest c = length (back c) - half (stage-of c .before .before)
 
-  middle : (c : lts.After-by-halves claims pre reads.Post) → (let b = block-of c in Reached (b .before .before) (half (b .before .before)) (back c))
-  middle c = halfway-next (begun (block-of c)) _ refl (omega arith) 0 _ (omega arith) (omega arith) (c .by-halves .ensures)
+  middle : (c : lts.After-by-halves claims pre reads.Post) → (let b = stage-of c in Reached (b .before .before) (half (b .before .before)) (back c))
+  middle c = halfway-next (begun (stage-of c)) _ refl (omega arith) 0 _ (omega arith) (omega arith) (c .by-halves .ensures)
 
-  rest-half : (c : lts.After-by-halves claims pre reads.Post) → rest c ≡ half (block-of c .before .before)
-  rest-half c = omega (arith, halfway-long (middle c) (sizes (block-of c .before .before)))
+  rest-half : (c : lts.After-by-halves claims pre reads.Post) → rest c ≡ half (stage-of c .before .before)
+  rest-half c = omega (arith, halfway-long (middle c) (sizes (stage-of c .before .before)))
 
-  block-requires : lts.Need-block-requires claims pre reads.Post
-  block-requires c κs = let s = c .before .before .before .before in let k = sizes (c .before) in (s .pre .1 .0, (k .whole, (s .pre .1 .1 .1 .0, k .table)))
+  first-stage-requires : lts.Need-first-stage-requires claims pre reads.Post
+  first-stage-requires c κs = let s = c .before .before .before .before in let k = sizes (c .before) in (s .pre .1 .0, (k .whole, (s .pre .1 .1 .1 .0, k .table)))
 
   slice-relend-prefix-by-halves : lts.Need-slice-relend-prefix-by-halves claims pre reads.Post
   slice-relend-prefix-by-halves c = let b = c .before .before in omega (arith, halfway-long (begun b) (sizes (b .before .before)))
@@ -83,21 +83,21 @@ module _ (t : ℕ) where
   mul-by-halves c = omega arith
 
   sub-by-halves : lts.Need-sub-by-halves claims pre reads.Post
-  sub-by-halves c = let a = c .before .before in omega (arith, halfway-long (middle a) (sizes (block-of a .before .before)))
+  sub-by-halves c = let a = c .before .before in omega (arith, halfway-long (middle a) (sizes (stage-of a .before .before)))
 
   part-by-halves-start : lts.Need-part-by-halves-start claims pre reads.Post
-  part-by-halves-start c = let a = c .before .before in omega (arith, halfway-long (middle a) (sizes (block-of a .before .before)))
+  part-by-halves-start c = let a = c .before .before in omega (arith, halfway-long (middle a) (sizes (stage-of a .before .before)))
 
   part-by-halves-end : lts.Need-part-by-halves-end claims pre reads.Post
   part-by-halves-end c = omega arith
 
   add-by-halves-2 : lts.Need-add-by-halves-2 claims pre reads.Post
-  add-by-halves-2 c = let k = sizes (block-of (c .before .before .before) .before .before) in omega arith
+  add-by-halves-2 c = let k = sizes (stage-of (c .before .before .before) .before .before) in omega arith
 
   by-halves-requires-2 : lts.Need-by-halves-requires-2 claims pre reads.Post
   by-halves-requires-2 c κs =
       let a = c .before .before .before in
-      let b = block-of a in
+      let b = stage-of a in
       let s = b .before .before .before .before .before in
       let e = rest-half a in
       let k = sizes (b .before .before) in
@@ -106,7 +106,7 @@ module _ (t : ℕ) where
 
   -- Behind the second half.
   ended : (c : lts.After-by-halves2 claims pre reads.Post) →
-      (let a = c .before .before .before .before in let h = half (block-of a .before .before) in Reached (block-of a .before .before) (h + h) (putMid h (rest a) (back a) (c .by-halves2 .last .0)))
+      (let a = c .before .before .before .before in let h = half (stage-of a .before .before) in Reached (stage-of a .before .before) (h + h) (putMid h (rest a) (back a) (c .by-halves2 .last .0)))
   ended c =
       let a = c .before .before .before .before in
       let e = rest-half a in
@@ -114,12 +114,12 @@ module _ (t : ℕ) where
 
   same-length : lts.Need-same-length claims pre reads.Post
   same-length c =
-      let k = sizes (block-of (c .before .before .before .before .before .before) .before .before) in
+      let k = sizes (stage-of (c .before .before .before .before .before .before) .before .before) in
       halfway-long (ended (c .before .before)) k ∙ sym (k .whole)
 
   returns : lts.Need-returns claims pre reads.Post
   returns c =
-      let b = block-of (c .before .before .before .before .before .before) in
+      let b = stage-of (c .before .before .before .before .before .before) in
       halfway-all (ended (c .before .before)) (sizes (b .before .before) .whole) (b .before .before .if1 .taken)
 
   returns-2 : lts.Need-returns-2 claims pre reads.Post
@@ -127,7 +127,7 @@ module _ (t : ℕ) where
 
 pub +by-halves-spec : {M : Type 1} → statement M
 +by-halves-spec = close μ λ t. lts.spec (claims t) (pre t) reads.Post
-    (block-requires t)
+    (first-stage-requires t)
     (slice-relend-prefix-by-halves t)
     (slice-aggregate-by-halves t)
     (add-by-halves t)
