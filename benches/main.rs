@@ -1,162 +1,155 @@
-// Every schedule, modular and fixed, against plain Rust of the same step and against libraries that a user would pick instead.
-// Ratios are of times from one run: each pair is timed in turn, warmed up, and the smallest of many counts.
+// Every schedule, modular and fixed, at 1,024 and 4,096 points, with its judgement and without it, against plain Rust of the same step,
+// and beside libraries that a user would pick instead. Ratios come from one run: the contenders take turns, and the smallest time of many
+// turns counts, which leaves the cold ones out. Prints two tables and exits with 1 where a bar is missed.
+//     speed [TURNS]
+mod library;
 mod plain;
 
 use std::hint::black_box;
 use std::time::Instant;
 
-#[repr(C)]
-#[derive(Debug)]
-struct Answer {
-    number: u32,
-    place: usize,
+// At most so many times plain Rust: without the judgement, and with it.
+const NEAR: (f64, f64) = (1.25, 1.5);
+const FAR: (f64, f64) = (1.5, 1.75);
+
+type Modular = (&'static str, (f64, f64), fn(&mut [u32], u32, &[u32], &mut [u32]));
+type Fixed = (&'static str, (f64, f64), fn(&mut [i32], &[i32], &mut [i32]));
+
+const MODULAR: [Modular; 5] = [
+    ("1, by columns", NEAR, plain::modular::columns),
+    ("2, perfect shuffle", FAR, plain::modular::shuffle),
+    ("3, by halves", NEAR, plain::modular::halves),
+    ("4, Thong T1", NEAR, plain::modular::thong),
+    ("5, Pease", FAR, plain::modular::pease),
+];
+
+const FIXED: [Fixed; 3] = [
+    ("1, by columns", NEAR, plain::fixed::columns),
+    ("2, perfect shuffle", FAR, plain::fixed::shuffle),
+    ("3, by halves", NEAR, plain::fixed::halves),
+];
+
+// One turn of one contender, on fresh samples: its time in microseconds.
+struct Contender<'a, T> {
+    run: &'a mut dyn FnMut(&mut [T], &mut [T]),
+    buf: Vec<T>,
+    scratch: Vec<T>,
+    smallest: f64,
 }
 
-#[repr(C)]
-struct Setting {
-    modulus: u32,
-    roots: [u32; 12],
-}
+impl<'a, T: Copy + Default> Contender<'a, T> {
+    fn new(len: usize, run: &'a mut dyn FnMut(&mut [T], &mut [T])) -> Self {
+        Contender { run, buf: vec![T::default(); len], scratch: vec![T::default(); len], smallest: f64::MAX }
+    }
 
-#[repr(C)]
-struct Found {
-    answer: Answer,
-    setting: Setting,
-}
-
-#[link(name = "meter", kind = "static")]
-extern "C" {
-    fn fdr_house_row(row: u32) -> Found;
-    fn fdr_modular_fill(setting: Setting, table: *mut u32, table_len: usize) -> Answer;
-    fn fdr_modular_transform(
-        schedule: u32, buf: *mut u32, buf_len: usize, m: u32, table: *const u32, table_len: usize, scratch: *mut u32, scratch_len: usize,
-    ) -> Answer;
-    fn fdr_fixed_fill(table: *mut i32, table_len: usize) -> Answer;
-    fn fdr_fixed_transform(
-        schedule: u32, buf: *mut i32, buf_len: usize, table: *const i32, table_len: usize, scratch: *mut i32, scratch_len: usize,
-    ) -> Answer;
-}
-
-#[link(name = "kernels", kind = "static")]
-extern "C" {
-    fn fdr_kernel_1(buf: *mut u32, buf_len: usize, m: u32, table: *const u32, table_len: usize, n: usize);
-    fn fdr_kernel_2(buf: *mut u32, buf_len: usize, m: u32, table: *const u32, table_len: usize, n: usize, scratch: *mut u32, scratch_len: usize);
-    fn fdr_kernel_3(buf: *mut u32, buf_len: usize, m: u32, table: *const u32, table_len: usize);
-    fn fdr_kernel_4(buf: *mut u32, buf_len: usize, m: u32, table: *const u32, table_len: usize, n: usize);
-    fn fdr_kernel_5(buf: *mut u32, buf_len: usize, m: u32, table: *const u32, table_len: usize, n: usize, scratch: *mut u32, scratch_len: usize);
-    fn fdr_kernel_fixed_1(buf: *mut i32, buf_len: usize, table: *const i32, table_len: usize, n: usize);
-    fn fdr_kernel_fixed_2(buf: *mut i32, buf_len: usize, table: *const i32, table_len: usize, n: usize, scratch: *mut i32, scratch_len: usize);
-    fn fdr_kernel_fixed_3(buf: *mut i32, buf_len: usize, table: *const i32, table_len: usize);
-}
-
-fn kernel(schedule: u32, buf: &mut [u32], m: u32, table: &[u32], scratch: &mut [u32]) {
-    let (b, bl, t, tl, s, sl) = (buf.as_mut_ptr(), buf.len(), table.as_ptr(), table.len(), scratch.as_mut_ptr(), scratch.len());
-    let n = bl.trailing_zeros() as usize;
-    unsafe {
-        match schedule {
-            1 => fdr_kernel_1(b, bl, m, t, tl, n),
-            2 => fdr_kernel_2(b, bl, m, t, tl, n, s, sl),
-            3 => fdr_kernel_3(b, bl, m, t, tl),
-            4 => fdr_kernel_4(b, bl, m, t, tl, n),
-            _ => fdr_kernel_5(b, bl, m, t, tl, n, s, sl),
-        }
+    fn turn(&mut self, samples: &[T]) {
+        self.buf.copy_from_slice(samples);
+        let begun = Instant::now();
+        (self.run)(black_box(&mut self.buf), &mut self.scratch);
+        self.smallest = self.smallest.min(begun.elapsed().as_nanos() as f64 / 1000.0);
+        black_box(&self.buf);
     }
 }
 
-fn kernel_fixed(schedule: u32, buf: &mut [i32], table: &[i32], scratch: &mut [i32]) {
-    let (b, bl, t, tl, s, sl) = (buf.as_mut_ptr(), buf.len(), table.as_ptr(), table.len(), scratch.as_mut_ptr(), scratch.len());
-    let n = tl.trailing_zeros() as usize;
-    unsafe {
-        match schedule {
-            1 => fdr_kernel_fixed_1(b, bl, t, tl, n),
-            2 => fdr_kernel_fixed_2(b, bl, t, tl, n, s, sl),
-            _ => fdr_kernel_fixed_3(b, bl, t, tl),
-        }
+// The smallest times of plain Rust, the kernel and the call, which must leave the same.
+fn race<T: Copy + Default + PartialEq>(
+    turns: usize,
+    samples: &[T],
+    plain: &mut dyn FnMut(&mut [T], &mut [T]),
+    kernel: &mut dyn FnMut(&mut [T], &mut [T]),
+    call: &mut dyn FnMut(&mut [T], &mut [T]),
+) -> [f64; 3] {
+    let mut all = [plain, kernel, call].map(|run| Contender::new(samples.len(), run));
+    for _ in 0..turns {
+        all.iter_mut().for_each(|c| c.turn(samples));
     }
+    assert!(all[0].buf == all[1].buf && all[0].buf == all[2].buf, "the results differ");
+    all.map(|c| c.smallest)
 }
 
-// The smallest time of each, in microseconds, run in turn.
-fn smallest<const K: usize>(runs: usize, mut each: [&mut dyn FnMut() -> f64; K]) -> [f64; K] {
-    let mut best = [f64::MAX; K];
-    for _ in 0..runs {
-        for (f, b) in each.iter_mut().zip(&mut best) {
-            *b = b.min(f());
-        }
-    }
-    best
+// The smallest time of something that needs nothing here.
+fn alone(turns: usize, run: unsafe extern "C" fn()) -> f64 {
+    let mut nothing = |_: &mut [u8], _: &mut [u8]| unsafe { run() };
+    let mut contender = Contender::new(0, &mut nothing);
+    (0..turns).for_each(|_| contender.turn(&[]));
+    contender.smallest
 }
 
-fn timed<T: Clone>(samples: &[T], buf: &mut Vec<T>, f: impl FnOnce(&mut [T])) -> f64 {
-    buf.clone_from_slice(samples);
-    let begun = Instant::now();
-    f(black_box(buf));
-    let took = begun.elapsed().as_nanos() as f64 / 1000.0;
-    black_box(&buf);
-    took
+// A row of the first table; whether both bars are held.
+fn row(kind: &str, size: usize, name: &str, bars: (f64, f64), times: [f64; 3]) -> bool {
+    let [plain, kernel, call] = times;
+    let held = kernel <= bars.0 * plain && call <= bars.1 * plain;
+    println!(
+        "| {kind} | {size} | {name} | {plain:.1} | {:.2} | {:.2} | {:.2} | {:.2} |{}",
+        kernel / plain,
+        bars.0,
+        call / plain,
+        bars.1,
+        if held { "" } else { " MISSED" }
+    );
+    held
 }
 
 fn main() {
-    let runs: usize = std::env::args().nth(1).map_or(2000, |w| w.parse().unwrap());
+    let turns: usize = std::env::args().nth(1).map_or(3000, |w| w.parse().expect("a number of turns"));
     let mut state = 1u64;
     let mut random = move || {
         state = state.wrapping_mul(6364136223846793005).wrapping_add(1442695040888963407);
         (state >> 33) as u32
     };
-    for size in [1024usize, 4096] {
-        let setting = unsafe { fdr_house_row(0) }.setting;
-        let m = black_box(setting.modulus);
-        let mut table = vec![0u32; size / 2];
-        assert_eq!(unsafe { fdr_modular_fill(setting, table.as_mut_ptr(), table.len()) }.number, 0);
+    let mut held = true;
+    let mut beside = Vec::new();
+    println!("| | N | schedule | plain Rust, µs | kernel | bar | call | bar |");
+    println!("|---|---|---|---|---|---|---|---|");
+    for n in [10, 12] {
+        let size = 1 << n;
+        let (m, table) = library::modular_table(size / 2);
+        let m = black_box(m);
         let samples: Vec<u32> = (0..size).map(|_| random() % m).collect();
-        let schedules: [(&str, fn(&mut [u32], u32, &[u32], &mut [u32])); 5] = [
-            ("1 columns", plain::modular::columns),
-            ("2 shuffle", plain::modular::shuffle),
-            ("3 halves", plain::modular::halves),
-            ("4 Thong", plain::modular::thong),
-            ("5 Pease", plain::modular::pease),
-        ];
-        for (i, (name, rust)) in schedules.into_iter().enumerate() {
-            let schedule = i as u32 + 1;
-            let mut results = [vec![0u32; size], vec![0u32; size], vec![0u32; size]];
-            let [x, y, z] = &mut results;
-            let mut s1 = vec![0u32; size];
-            let mut s2 = vec![0u32; size];
-            let mut s3 = vec![0u32; size];
-            let times = smallest(runs, [
-                &mut || timed(&samples, x, |b| rust(b, m, &table, &mut s1)),
-                &mut || timed(&samples, y, |b| kernel(schedule, b, m, &table, &mut s2)),
-                &mut || timed(&samples, z, |b| unsafe {
-                    let a = fdr_modular_transform(schedule, b.as_mut_ptr(), b.len(), m, table.as_ptr(), table.len(), s3.as_mut_ptr(), s3.len());
-                    assert_eq!(a.number, 0);
-                }),
-            ]);
-            assert_eq!(results[0], results[1]);
-            assert_eq!(results[0], results[2]);
-            println!("modular {size} {name}: plain {:.1} us, kernel {:.2}, call {:.2}", times[0], times[1] / times[0], times[2] / times[0]);
+        let mut best = f64::MAX;
+        for (schedule, (name, bars, rust)) in (1..).zip(MODULAR) {
+            let times = race(
+                turns,
+                &samples,
+                &mut |buf, scratch| rust(buf, m, &table, scratch),
+                &mut |buf, scratch| library::modular_kernel(schedule, buf, m, &table, scratch),
+                &mut |buf, scratch| library::modular_call(schedule, buf, m, &table, scratch),
+            );
+            held &= row("modular", size, name, bars, times);
+            best = best.min(times[2]);
         }
-        let mut table = vec![0i32; size];
-        assert_eq!(unsafe { fdr_fixed_fill(table.as_mut_ptr(), table.len()) }.number, 0);
+        unsafe { library::others_sums_prepare(m, n, samples.as_ptr()) };
+        beside.push(("modular", size, best, vec![("NTL", alone(turns, library::others_ntl))]));
+    }
+    for n in [10, 12] {
+        let size = 1 << n;
+        let table = library::fixed_table(size);
         let samples: Vec<i32> = (0..2 * size).map(|_| (random() % 65535) as i32 - 32767).collect();
-        let schedules: [(&str, fn(&mut [i32], &[i32], &mut [i32])); 3] =
-            [("1 columns", plain::fixed::columns), ("2 shuffle", plain::fixed::shuffle), ("3 halves", plain::fixed::halves)];
-        for (i, (name, rust)) in schedules.into_iter().enumerate() {
-            let schedule = i as u32 + 1;
-            let mut results = [vec![0i32; 2 * size], vec![0i32; 2 * size], vec![0i32; 2 * size]];
-            let [x, y, z] = &mut results;
-            let mut s1 = vec![0i32; 2 * size];
-            let mut s2 = vec![0i32; 2 * size];
-            let mut s3 = vec![0i32; 2 * size];
-            let times = smallest(runs, [
-                &mut || timed(&samples, x, |b| rust(b, &table, &mut s1)),
-                &mut || timed(&samples, y, |b| kernel_fixed(schedule, b, &table, &mut s2)),
-                &mut || timed(&samples, z, |b| unsafe {
-                    let a = fdr_fixed_transform(schedule, b.as_mut_ptr(), b.len(), table.as_ptr(), table.len(), s3.as_mut_ptr(), s3.len());
-                    assert_eq!(a.number, 0);
-                }),
-            ]);
-            assert_eq!(results[0], results[1]);
-            assert_eq!(results[0], results[2]);
-            println!("fixed {size} {name}: plain {:.1} us, kernel {:.2}, call {:.2}", times[0], times[1] / times[0], times[2] / times[0]);
+        let mut best = f64::MAX;
+        for (schedule, (name, bars, rust)) in (1..).zip(FIXED) {
+            let times = race(
+                turns,
+                &samples,
+                &mut |buf, scratch| rust(buf, &table, scratch),
+                &mut |buf, scratch| library::fixed_kernel(schedule, buf, &table, scratch),
+                &mut |buf, scratch| library::fixed_call(schedule, buf, &table, scratch),
+            );
+            held &= row("fixed", size, name, bars, times);
+            best = best.min(times[2]);
         }
+        unsafe { library::others_spectra_prepare(n, samples.as_ptr()) };
+        let others = vec![("FFTW, doubles", alone(turns, library::others_fftw)), ("KissFFT, floats", alone(turns, library::others_kiss))];
+        beside.push(("fixed", size, best, others));
+    }
+    println!("\n| | N | the fastest call, µs | beside | µs | ratio |");
+    println!("|---|---|---|---|---|---|");
+    for (kind, size, best, others) in beside {
+        for (name, time) in others {
+            println!("| {kind} | {size} | {best:.1} | {name} | {time:.1} | {:.2} |", best / time);
+        }
+    }
+    if !held {
+        eprintln!("a bar was missed");
+        std::process::exit(1);
     }
 }

@@ -93,12 +93,20 @@ pub mod modular {
         let (mut from, mut to) = (&mut *buf, &mut *scratch);
         for t in 0..n {
             let (low, high) = from.split_at(half);
-            for (l, (pair, (&a, &b))) in to.chunks_exact_mut(2).zip(low.iter().zip(high)).enumerate() {
-                // N/2^(t+1) times the reversal of the low t bits of l
-                let e = ((l as u64 & ((1 << t) - 1)).reverse_bits() >> (65 - n)) as usize;
+            // N/2^(t+1) times the reversal of the low t bits of l, counted on from pair to pair
+            let mut e = 0;
+            for (pair, (&a, &b)) in to.chunks_exact_mut(2).zip(low.iter().zip(high)) {
                 let c = times(table[e], b, m);
                 pair[0] = plus(a, c, m);
                 pair[1] = minus(a, c, m);
+                let mut bit = half / 2;
+                while bit >= half >> t && e & bit != 0 {
+                    e -= bit;
+                    bit /= 2;
+                }
+                if bit >= half >> t {
+                    e += bit;
+                }
             }
             std::mem::swap(&mut from, &mut to);
         }
