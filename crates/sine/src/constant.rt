@@ -1,7 +1,5 @@
 // The sine table for 4,096 points.
 ghost use mathlib.Core.Path.{_≡_};
-ghost use Prim.Native.Nat.{_<_};
-ghost use Rattle.points.specs.Interleaved.{number};
 ghost use Rattle.sine.specs.Constant.{sine};
 
 // "The fixed-point sine table for 4,096 points, 2,048 pairs, is a constant": the whole numbers nearest to 16,384 times cosine and sine
@@ -4105,10 +4103,9 @@ const SINE: [i32; 4096] = [
     25,
 ];
 
-// Number `place` of the constant.
-pub fn number_at(place: usize) -> i32
-    requires { ⌜ place < 4096 ⌝ }
-    ensures { λ r. ⌜ r ≡ number sine place ⌝ }
+// The constant itself.
+pub fn numbers() -> [i32; 4096]
+    ensures { λ r. ⌜ r ≡ sine ⌝ }
 {
-    SINE[place]
+    SINE
 }

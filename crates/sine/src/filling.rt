@@ -25,10 +25,11 @@ fn write_pairs(table: &mut [i32], stride: usize)
     requires { ⌜ stride ≡ 4096 / length (now table) ⌝ }
     ensures { λ _. ⌜ now (table .exit) ≡ sine-table (log-of (length (now (table .entry)))) ⌝ }
 {
+    let numbers = crate::constant::numbers();
     let mut place = 0;
     while place < table.len() {
         let pair = stride * (place / 2);
-        let number = crate::constant::number_at(pair + pair + place % 2);
+        let number = numbers[pair + pair + place % 2];
         table[place] = number;
         place += 1;
     }
