@@ -13,8 +13,9 @@ use Rattle.fourier.specs.Schedules.{Wing, Buffer, butterfly, shuffled, columns,
 use Rattle.fourier.specs.Table.{root, wanted, rule, lookup, back}
 use Rattle.residues.specs.Moduli.{permits}
 use Rattle.residues.specs.Judgement.{below}
-use Rattle.modular.specs.Verdicts.{offers-stage, scratch-fits, lent-verdict, rest-verdict, accept-verdict, stage-verdict}
-use Rattle.modular.specs.Outcomes.{stage-of, staged}
+use Rattle.modular_judgement.specs.Verdicts.{offers-stage, scratch-fits, lent-verdict, rest-verdict, accept-verdict, stage-verdict}
+use Rattle.modular_work.specs.Works.{stage-of}
+use Rattle.modular.specs.Outcomes.{staged}
 use Rattle.fourier.specs.Numbers.{fourier-mod, frequency-mod, time-mod, inverse-mod}
 use Rattle.points.specs.declared.Point.{Point}
 use Rattle.points.specs.Interleaved.{point, part, interleaved}
