@@ -22,9 +22,10 @@ use Rattle.points.specs.Interleaved.{point, part, interleaved}
 use Rattle.points.specs.Rounding.{half-up}
 use Rattle.points.specs.Steps.{rounded, unrounded}
 use Rattle.points.specs.Distance.{distance, gap}
-use Rattle.sine.specs.Rules as fixed-rules
-use Rattle.sine.specs.Rules.{entry, starts, sized, follows, linked}
-use Rattle.sine.specs.Calls.{fixed-accept-verdict}
+use Rattle.tables.specs.Rules as fixed-rules
+use Rattle.rules.specs.Pairs.{starts, sized, follows}
+use Rattle.tables.specs.Rules.{entry, linked}
+use Rattle.tables.specs.Acceptance.{fixed-accept-verdict}
 
 -- m = 5, table 1 2, samples 1 2 3 4.
 abbrev table : ℕ → ℕ

@@ -2,7 +2,7 @@
 use Prim.Native.Nat.{ℕ, _*_, _^_, _<_}
 use native.Mathlib.Omega.{arith}
 use Rattle.sine.specs.Constant.{sine}
-use Rattle.sine.proofs.Signed.{small-back}
+use Rattle.rules.proofs.Signed.{small-back}
 use Rattle.sine.proofs.Numbers.{constant-small}
 use Rattle.sine.proofs.constant.number_at.Statement.{statement}
 use Rattle.sine.proofs.constant.number_at.Tie as tie
