@@ -6,8 +6,8 @@ use Rattle.answer.specs.Lengths.{permitted-log}
 use Rattle.house.specs.Filling.{verdict, Ready, done-ready}
 use borrow.Author.Tests.{ne-eqb}
 use borrow.Author.Needs.{needs}
-use Rattle.house.proofs.filling.fill.Statement.{statement}
-use Rattle.house.proofs.filling.fill.Tie as tie
+use Rattle.house.proofs.fill.Statement.{statement}
+use Rattle.house.proofs.fill.Tie as tie
 
 -- What the judgement leaves to the work.
 judged-done : (c : tie.Then1) → (let s = c .before .before .before .before .args in verdict (s .setting) (length (s .table .now)) .number ≡ 0)

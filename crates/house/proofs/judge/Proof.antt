@@ -9,8 +9,8 @@ use Rattle.answer.specs.Choice.{refuse-at, done, unless}
 use Rattle.answer.specs.Lengths.{table-log, permitted-log}
 use Rattle.residues.specs.Moduli.{permits, permits-permitted}
 use Rattle.house.specs.Filling.{verdict, table-length}
-use Rattle.house.proofs.filling.judge.Statement.{statement}
-use Rattle.house.proofs.filling.judge.Tie as tie
+use Rattle.house.proofs.judge.Statement.{statement}
+use Rattle.house.proofs.judge.Tie as tie
 
 -- What the tests that were passed tell.
 modulus-passed : (c : tie.Else1) → permits (c .before .before .before .args .setting .modulus) ≡ true

@@ -1,8 +1,8 @@
 -- By the test of the row.
 use borrow.Author.Tests.{lt-ltb, le-ltb}
 use borrow.Author.Needs.{needs}
-use Rattle.house.proofs.rows.setting_of.Statement.{statement}
-use Rattle.house.proofs.rows.setting_of.Tie as tie
+use Rattle.house_rows.proofs.setting_of.Statement.{statement}
+use Rattle.house_rows.proofs.setting_of.Tie as tie
 
 row-setting-requires : tie.Need-row-setting-requires
 row-setting-requires c κs = search needs

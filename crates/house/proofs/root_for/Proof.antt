@@ -1,8 +1,8 @@
 -- The root for 2^n stands at place n - 1.
-use Rattle.house.specs.Settings.{root-for}
+use Rattle.house_rows.specs.Settings.{root-for}
 use borrow.Author.Needs.{needs}
-use Rattle.house.proofs.filling.root_for.Statement.{statement}
-use Rattle.house.proofs.filling.root_for.Tie as tie
+use Rattle.house.proofs.root_for.Statement.{statement}
+use Rattle.house.proofs.root_for.Tie as tie
 
 sub-result : tie.Need-sub-result
 sub-result c = search needs

@@ -15,7 +15,7 @@ use Rattle.answer.specs.declared.Found.the-variants.{Nowhere}
 use Rattle.algebra.specs.Gaps.{mod-mul-left, mod-mul-right}
 use Rattle.fourier.specs.Sizes.{rows}
 use Rattle.residues.specs.Moduli.{permits, Permitted, permits-permitted}
-use Rattle.house.specs.Powers.{power-one, power-squared}
+use Rattle.house_rows.specs.Powers.{power-one, power-squared}
 
 -- ---- definitions
 

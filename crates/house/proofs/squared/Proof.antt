@@ -4,10 +4,10 @@ use mathlib.Core.Path.{_≡_, sym, _∙_}
 use native.Mathlib.Nat.{mod-lt}
 use native.Mathlib.Numerals.{add-one}
 use native.Mathlib.Omega.{arith}
-use Rattle.house.specs.Powers.{power-one, power-squared}
+use Rattle.house_rows.specs.Powers.{power-one, power-squared}
 use borrow.Author.Needs.{needs}
-use Rattle.house.proofs.filling.squared.Statement.{statement}
-use Rattle.house.proofs.filling.squared.Tie as tie
+use Rattle.house.proofs.squared.Statement.{statement}
+use Rattle.house.proofs.squared.Tie as tie
 
 abbrev Inv-loop : tie.InvT-loop
 Inv-loop k m power₀ i₀ power i = (i ≤ k) × (power .0 ≡ (power₀ .0) ^ 2 ^ i % m .value)

@@ -7,10 +7,10 @@ use native.Mathlib.Omega.{arith}
 use lib.ListN.{length}
 use Rattle.answer.specs.Lists.{at, listed, holds-self}
 use Rattle.answer.proofs.Writes.{Written, written-none, written-next, written-all}
-use Rattle.house.specs.Powers.{powers, power-next}
+use Rattle.house_rows.specs.Powers.{powers, power-next}
 use borrow.Author.Needs.{needs}
-use Rattle.house.proofs.filling.write_powers.Statement.{statement}
-use Rattle.house.proofs.filling.write_powers.Tie as tie
+use Rattle.house.proofs.write_powers.Statement.{statement}
+use Rattle.house.proofs.write_powers.Tie as tie
 
 abbrev Inv-loop : tie.InvT-loop
 Inv-loop table₀ x m power₀ i₀ table power i =

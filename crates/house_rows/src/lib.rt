@@ -1,12 +1,11 @@
-// The house rows.
-use crate::Setting;
+// The house rows, and the settings that they yield.
 use answer::Answer;
 use answer::DONE;
 use answer::ROW;
 use residues::Residue;
 ghost use mathlib.Core.Path.{_≡_};
 ghost use Prim.Native.Nat.{_<_};
-ghost use Rattle.house.specs.Settings.{row-setting, SettingOutcome};
+ghost use Rattle.house_rows.specs.Settings.{row-setting, SettingOutcome};
 
 // The moduli of rows 0 to 2.
 const MODULI: [u32; 3] = [998244353, 469762049, 167772161];
@@ -56,6 +55,12 @@ const ROOTS: [[u32; 12]; 3] = [
         150794572,
     ],
 ];
+
+// "The modulus together with its twelve roots, one per length": the root for 2^n stands at place n - 1.
+pub struct Setting {
+    pub modulus: u32,
+    pub roots: [Residue; 12],
+}
 
 // What a row yields.
 pub struct Yielded {

@@ -5,11 +5,11 @@ use native.Mathlib.Omega.{arith}
 use lib.ListN.{getD}
 use Rattle.answer.specs.Lists.{listed}
 use Rattle.answer.proofs.Writes.{Written, written-none, written-next, written-all}
-use Rattle.house.specs.Rows.{modulus-of, root-of, constants, constant, constant-root}
-use Rattle.house.specs.Settings.{residue, row-setting}
+use Rattle.house_rows.specs.Rows.{modulus-of, root-of, constants, constant, constant-root}
+use Rattle.house_rows.specs.Settings.{residue, row-setting}
 use borrow.Author.Needs.{needs}
-use Rattle.house.proofs.rows.row_setting.Statement.{statement}
-use Rattle.house.proofs.rows.row_setting.Tie as tie
+use Rattle.house_rows.proofs.row_setting.Statement.{statement}
+use Rattle.house_rows.proofs.row_setting.Tie as tie
 
 abbrev Inv-loop : tie.InvT-loop
 Inv-loop row roots₀ place₀ roots place =

@@ -9,8 +9,8 @@ use Rattle.answer.specs.Choice.{refuse, done, unless, if-done}
 use Rattle.answer.specs.Lists.{tabulate, getD-tabulate}
 use Rattle.answer.specs.declared.Answer.{Answer}
 use Rattle.residues.specs.declared.Residue.{Residue}
-use Rattle.house.specs.declared.Setting.{Setting}
-use Rattle.house.specs.Rows.{modulus-of, root-of}
+use Rattle.house_rows.specs.declared.Setting.{Setting}
+use Rattle.house_rows.specs.Rows.{modulus-of, root-of}
 
 -- ---- definitions
 

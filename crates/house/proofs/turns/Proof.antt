@@ -2,10 +2,10 @@
 use Prim.Native.Nat.{_≤_}
 use native.Mathlib.Omega.{arith}
 use borrow.Author.Tests.{lt-ltb, le-ltb}
-use Rattle.house.specs.Powers.{turns}
+use Rattle.house_rows.specs.Powers.{turns}
 use borrow.Author.Needs.{needs}
-use Rattle.house.proofs.filling.turns.Statement.{statement}
-use Rattle.house.proofs.filling.turns.Tie as tie
+use Rattle.house.proofs.turns.Statement.{statement}
+use Rattle.house.proofs.turns.Tie as tie
 
 returns : tie.Need-returns
 unfolding turns
