@@ -13,17 +13,19 @@ use Rattle.fourier.specs.Schedules.{Wing, Buffer, butterfly, shuffled, columns,
 use Rattle.fourier.specs.Table.{root, wanted, rule, lookup, back}
 use Rattle.residues.specs.Moduli.{permits}
 use Rattle.residues.specs.Judgement.{below}
-use Rattle.modular.specs.Verdicts.{offers-stage, scratch-fits, lent-verdict, rest-verdict, accept-verdict, stage-verdict}
-use Rattle.modular.specs.Outcomes.{stage-of, staged}
+use Rattle.modular_judgement.specs.Verdicts.{offers-stage, scratch-fits, lent-verdict, rest-verdict, accept-verdict, stage-verdict}
+use Rattle.modular_work.specs.Works.{stage-of}
+use Rattle.modular.specs.Outcomes.{staged}
 use Rattle.fourier.specs.Numbers.{fourier-mod, frequency-mod, time-mod, inverse-mod}
 use Rattle.points.specs.declared.Point.{Point}
 use Rattle.points.specs.Interleaved.{point, part, interleaved}
 use Rattle.points.specs.Rounding.{half-up}
 use Rattle.points.specs.Steps.{rounded, unrounded}
 use Rattle.points.specs.Distance.{distance, gap}
-use Rattle.sine.specs.Rules as fixed-rules
-use Rattle.sine.specs.Rules.{entry, starts, sized, follows, linked}
-use Rattle.sine.specs.Calls.{fixed-accept-verdict}
+use Rattle.tables.specs.Rules as fixed-rules
+use Rattle.rules.specs.Pairs.{starts, sized, follows}
+use Rattle.tables.specs.Rules.{entry, linked}
+use Rattle.tables.specs.Acceptance.{fixed-accept-verdict}
 
 -- m = 5, table 1 2, samples 1 2 3 4.
 abbrev table : ℕ → ℕ

@@ -1,5 +1,5 @@
 -- The outcome of each call in fixed point: its answer and what it leaves in every buffer that it was lent to write, for every input.
--- No second outcome satisfies any of these. Those of accept and fill stand beside the tables, in `sine`.
+-- No second outcome satisfies any of these. Those of accept and fill stand in `tables` and `sine`.
 use Prim.Native.Nat.{ℕ, _^_}
 use mathlib.Core.Path.{_≡_, sym, _∙_}
 use mathlib.Core.Bool.{cond}
@@ -16,7 +16,7 @@ use Rattle.points.specs.Interleaved.{point, interleaved}
 use Rattle.points.specs.Rounding.{half-up}
 use Rattle.points.specs.Steps.{rounded}
 use Rattle.scans.specs.Scans.{zeros}
-use Rattle.fixed.specs.Verdicts.{points-log, transform-verdict, reverse-verdict}
+use Rattle.fixed_judgement.specs.Verdicts.{points-log, transform-verdict, reverse-verdict}
 
 -- ---- transform
 

@@ -1,4 +1,4 @@
--- What a caller can cite of the outcomes of the calls in fixed point. Those of accept and fill stand in `sine`: a filled table is
+-- What a caller can cite of the outcomes of the calls in fixed point. Those of accept and fill stand in `tables` and `sine`: a filled table is
 -- accepted, `filled-accepted`, and a longer table's beginning is not, `beginning-refused`.
 use Prim.Native.Nat.{ℕ, zero, suc, _+_, _-_, _/_, _^_, _<_, _≤_}
 use mathlib.Core.Path.{_≡_, refl, sym, ap, _∙_, subst}
@@ -24,13 +24,13 @@ use Rattle.points.specs.Rounding.{half-up, half-up-half}
 use Rattle.points.specs.Steps.{rounded, unrounded, Sized}
 use Rattle.points.specs.Distance.{Near, results-near}
 use Rattle.points.specs.Growth.{results-sized}
-use Rattle.sine.specs.Rules.{rule, bad-pair}
+use Rattle.tables.specs.Rules.{rule, bad-pair}
 use Rattle.sine.specs.Sine.{sine-table, sine-table-length}
-use Rattle.sine.specs.Calls.{FillOutcome, sine-table-done, filled}
+use Rattle.sine.specs.Filling.{FillOutcome, sine-table-done, filled}
 use Rattle.sine.specs.Beginnings.{beginning-bad, beginning-length}
-use Rattle.fixed.specs.Verdicts.{points-log, permitted-length, ranged, bad-sample, scratch-fits, offers, transform-verdict, reverse-verdict}
+use Rattle.fixed_judgement.specs.Verdicts.{points-log, permitted-length, ranged, bad-sample, scratch-fits, offers, transform-verdict, reverse-verdict}
 use Rattle.fixed.specs.Outcomes.{by-schedule, transformed, TransformOutcome, reversed, ReverseOutcome}
-use Rattle.fixed.specs.Ready.{Points, permitted-points, power-points, Ready, transform-ready, ready-turns, offers-range}
+use Rattle.fixed_judgement.specs.Ready.{Points, permitted-points, power-points, Ready, transform-ready, ready-turns, offers-range}
 
 -- ---- the transform leaves what the schedule says, rounded
 

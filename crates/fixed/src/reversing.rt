@@ -1,5 +1,4 @@
 // Bit reversal of pairs.
-use crate::judging;
 use answer::Answer;
 ghost use mathlib.Core.Path.{_≡_};
 ghost use Prim.Native.Nat.{_+_, _^_, _≤_, _<_};
@@ -12,7 +11,7 @@ ghost use Rattle.fixed.specs.Outcomes.{ReverseOutcome};
 pub fn reverse(buf: &mut [i32]) -> Answer
     ensures { λ r. ⌜ ReverseOutcome (now (buf .entry)) r (now (buf .exit)) ⌝ }
 {
-    let n = judging::points_log(buf.len());
+    let n = fixed_judgement::points_log(buf.len());
     if n == 0 {
         return answer::LENGTH;
     }

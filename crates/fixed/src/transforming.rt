@@ -1,5 +1,4 @@
 // The transform.
-use crate::judging;
 use crate::working;
 use answer::Answer;
 ghost use Rattle.fixed.specs.Outcomes.{TransformOutcome};
@@ -9,11 +8,11 @@ pub fn transform(schedule: u32, buf: &mut [i32], table: &[i32], scratch: &mut [i
     ensures { λ r. ⌜ TransformOutcome schedule (now (buf .entry)) (now (table .entry)) (now (scratch .entry))
         r (now (buf .exit)) (now (scratch .exit)) ⌝ }
 {
-    let verdict = judging::judge_transform(schedule, &buf[..], table, scratch.len());
+    let verdict = fixed_judgement::judge_transform(schedule, &buf[..], table, scratch.len());
     if verdict.number != 0 {
         return verdict;
     }
-    let n = judging::points_log(buf.len());
+    let n = fixed_judgement::points_log(buf.len());
     working::do_schedule(schedule, buf, table, n, scratch);
     verdict
 }

@@ -9,7 +9,7 @@ ghost use Rattle.points.specs.Rounding.{half-up};
 ghost use Rattle.points.specs.Steps.{rounded};
 ghost use Rattle.points.specs.Growth.{grow};
 ghost use Rattle.scans.specs.Scans.{Scanned};
-ghost use Rattle.fixed.specs.Verdicts.{scratch-fits};
+ghost use Rattle.fixed_judgement.specs.Verdicts.{scratch-fits};
 ghost use Rattle.fixed.specs.Outcomes.{by-schedule, cleared};
 
 // All n stages of the schedule.

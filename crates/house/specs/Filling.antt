@@ -13,10 +13,10 @@ use Rattle.answer.specs.declared.Answer.{Answer}
 use Rattle.fourier.specs.Sizes.{two-halves}
 use Rattle.fourier.specs.Table.{root, Accepted}
 use Rattle.residues.specs.Moduli.{permits, Permitted, permits-permitted, permitted-permits}
-use Rattle.house.specs.declared.Setting.{Setting}
-use Rattle.house.specs.Powers.{powers, turns, Turns, turns-facts, facts-turns, powers-root, powers-accepted}
-use Rattle.house.specs.Rows.{row-permitted, root-below, root-turns}
-use Rattle.house.specs.Settings.{root-for, row-setting, root-for-row}
+use Rattle.house_rows.specs.declared.Setting.{Setting}
+use Rattle.house_rows.specs.Powers.{powers, turns, Turns, turns-facts, facts-turns, powers-root, powers-accepted}
+use Rattle.house_rows.specs.Rows.{row-permitted, root-below, root-turns}
+use Rattle.house_rows.specs.Settings.{root-for, row-setting, root-for-row}
 
 -- ---- definitions
 

@@ -1,5 +1,2 @@
--- House rows, settings, and the filling of tables over residues.
-pub mod Powers
-pub mod Rows
-pub mod Settings
+-- The filling of tables over residues.
 pub mod Filling

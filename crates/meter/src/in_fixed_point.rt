@@ -1,7 +1,8 @@
 // The calls in fixed point.
 use answer::Answer;
 ghost use Rattle.fixed.specs.Outcomes.{TransformOutcome, ReverseOutcome};
-ghost use Rattle.sine.specs.Calls.{AcceptOutcome, FillOutcome};
+ghost use Rattle.sine.specs.Filling.{FillOutcome};
+ghost use Rattle.tables.specs.Acceptance.{AcceptOutcome};
 
 // Whether the table is accepted: 3, 4.
 #[no_mangle]

@@ -3,7 +3,7 @@ use answer::Answer;
 use house::Setting;
 use house::Yielded;
 ghost use Rattle.house.specs.Filling.{FillOutcome};
-ghost use Rattle.house.specs.Settings.{SettingOutcome};
+ghost use Rattle.house_rows.specs.Settings.{SettingOutcome};
 ghost use Rattle.modular.specs.Outcomes.{AcceptOutcome, TransformOutcome, StageOutcome, InverseOutcome, ReverseOutcome};
 
 // Whether the table is accepted modulo m: 2, 3, 4.

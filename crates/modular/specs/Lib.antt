@@ -1,5 +1,3 @@
 -- The public calls over residues: their outcomes, and what follows from them.
-pub mod Verdicts
 pub mod Outcomes
-pub mod Ready
 pub mod Theorems

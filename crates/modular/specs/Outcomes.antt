@@ -2,19 +2,17 @@
 -- No second outcome satisfies any of these.
 use Prim.Native.Nat.{ℕ}
 use mathlib.Core.Path.{_≡_, sym, _∙_}
-use mathlib.Core.Bool.{cond}
 use mathlib.Core.List.{List}
 use lib.ListN.{length}
-use lib.Dec.{eqb}
 use Rattle.answer.specs.declared.Answer.{Answer}
 use Rattle.answer.specs.Choice.{if-done}
 use Rattle.answer.specs.Lengths.{log-of}
 use Rattle.answer.specs.Lists.{at, tabulate}
 use Rattle.fourier.specs.Reverse.{rev}
-use Rattle.fourier.specs.Schedules.{Buffer, Stage, columns, shuffle, step, schedule1, schedule2, schedule3, schedule4, schedule5}
-use Rattle.fourier.specs.Numbers.{frequency-mod, time-mod, inverse-mod}
-use Rattle.shuffles.specs.Stages.{zeros}
-use Rattle.modular.specs.Verdicts.{accept-verdict, through-scratch, transform-verdict, stage-verdict, inverse-verdict, reverse-verdict}
+use Rattle.fourier.specs.Schedules.{step}
+use Rattle.fourier.specs.Numbers.{frequency-mod, inverse-mod}
+use Rattle.modular_judgement.specs.Verdicts.{accept-verdict, transform-verdict, stage-verdict, inverse-verdict, reverse-verdict}
+use Rattle.modular_work.specs.Works.{by-schedule, stage-of, cleared}
 
 -- ---- accept
 
@@ -23,21 +21,9 @@ pub record AcceptOutcome (m : ℕ) (table : List ℕ) (answer : Answer) : Type 0
 
 -- ---- transform
 
--- What the schedule leaves of N = 2^n data, with a table of h = N/2 entries.
-unfoldable pub by-schedule : ℕ → ℕ → ℕ → ℕ → (ℕ → ℕ) → Buffer ℕ → Buffer ℕ
-by-schedule schedule n m h t d =
-    cond (eqb schedule 1) (schedule1 n ℕ (frequency-mod m h t) d)
-    (cond (eqb schedule 2) (schedule2 n ℕ (frequency-mod m h t) d)
-    (cond (eqb schedule 3) (schedule3 n ℕ (frequency-mod m h t) d)
-    (cond (eqb schedule 4) (schedule4 n ℕ (time-mod m h t) d)
-    (schedule5 n ℕ (time-mod m h t) d))))
-
+-- What a transform makes of the data.
 abbrev pub transformed : ℕ → List ℕ → ℕ → List ℕ → List ℕ
 transformed schedule buf m table = tabulate (length buf) (by-schedule schedule (log-of (length buf)) m (length table) (at table) (at buf))
-
--- Scratch "is all zeros after success. Elsewhere it is neither tested nor touched".
-unfoldable pub cleared : ℕ → List ℕ → List ℕ
-cleared schedule scratch = cond (through-scratch schedule) (zeros (length scratch)) scratch
 
 pub record TransformOutcome (schedule : ℕ) (buf : List ℕ) (m : ℕ) (table scratch : List ℕ) (answer : Answer) (buf′ scratch′ : List ℕ) : Type 0 where
   pub answers : answer ≡ transform-verdict schedule buf m table (length scratch)
@@ -46,11 +32,7 @@ pub record TransformOutcome (schedule : ℕ) (buf : List ℕ) (m : ℕ) (table s
 
 -- ---- stage
 
--- Stage s of schedule 1 or 2.
-unfoldable pub stage-of : ℕ → ℕ → ℕ → Stage
-stage-of schedule n s = cond (eqb schedule 1) (columns n s) (shuffle n s)
-
--- What it makes of the data.
+-- What a stage makes of the data.
 abbrev pub staged : ℕ → ℕ → List ℕ → ℕ → List ℕ → List ℕ
 staged schedule s buf m table = tabulate (length buf) (step (frequency-mod m (length table) (at table)) (stage-of schedule (log-of (length buf)) s) (at buf))
 

@@ -23,9 +23,10 @@ use Rattle.fourier.specs.Table.{root, rule, Accepted, root-power}
 use Rattle.fourier.specs.Numbers.{fourier-mod, fourier-cong, frequency-mod, schedule1-sums, schedule2-sums, schedule3-sums, schedule4-sums, schedule5-sums, inverse-mod, inverse-sums-mod, sums-inverse-mod}
 use Rattle.residues.specs.Moduli.{Permitted, permits, permits-permitted, permitted-permits}
 use Rattle.residues.specs.Judgement.{Below, below, bad-entry, bad-sample, entries-below, below-nowhere}
-use Rattle.modular.specs.Verdicts.{permitted-length, scratch-fits, lent-verdict, rest-verdict, accept-verdict, offers, transform-verdict, offers-stage, stage-verdict, inverse-verdict, reverse-verdict}
-use Rattle.modular.specs.Outcomes.{AcceptOutcome, by-schedule, TransformOutcome, stage-of, StageOutcome, InverseOutcome, ReverseOutcome}
-use Rattle.modular.specs.Ready.{Ready, transform-ready, offers-range, stage-ready, inverse-ready}
+use Rattle.modular_judgement.specs.Verdicts.{permitted-length, scratch-fits, lent-verdict, rest-verdict, accept-verdict, offers, transform-verdict, offers-stage, stage-verdict, inverse-verdict, reverse-verdict}
+use Rattle.modular_work.specs.Works.{by-schedule, stage-of}
+use Rattle.modular.specs.Outcomes.{AcceptOutcome, TransformOutcome, StageOutcome, InverseOutcome, ReverseOutcome}
+use Rattle.modular_judgement.specs.Ready.{Ready, transform-ready, offers-range, stage-ready, inverse-ready}
 
 -- ---- accepted means that x^(N/2) is -1
 

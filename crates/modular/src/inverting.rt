@@ -1,6 +1,6 @@
 // The inverse, and bit reversal.
-use crate::judging::judge_inverse;
 use answer::Answer;
+use modular_judgement::judge_inverse;
 use residues::Modulus;
 ghost use Rattle.modular.specs.Outcomes.{InverseOutcome, ReverseOutcome};
 

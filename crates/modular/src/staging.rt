@@ -1,7 +1,7 @@
 // Single stages.
-use crate::judging::judge_stage;
-use crate::working;
 use answer::Answer;
+use modular_judgement::judge_stage;
+use modular_work::do_stage;
 use residues::Modulus;
 ghost use Rattle.modular.specs.Outcomes.{StageOutcome};
 
@@ -22,7 +22,7 @@ pub fn stage(
         return verdict;
     }
     let n = answer::log_of(buf.len());
-    working::do_stage(
+    do_stage(
         schedule,
         s as usize,
         buf,

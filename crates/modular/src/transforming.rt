@@ -1,7 +1,7 @@
 // The whole transform.
-use crate::judging::judge_transform;
-use crate::working;
 use answer::Answer;
+use modular_judgement::judge_transform;
+use modular_work::do_schedule;
 use residues::Modulus;
 ghost use Rattle.modular.specs.Outcomes.{TransformOutcome};
 
@@ -21,6 +21,6 @@ pub fn transform(
         return verdict;
     }
     let n = answer::log_of(buf.len());
-    working::do_schedule(schedule, buf, table, Modulus { value: m }, n, scratch);
+    do_schedule(schedule, buf, table, Modulus { value: m }, n, scratch);
     verdict
 }

@@ -11,7 +11,7 @@ use borrow.Author.Tests.{le-leb, lt-leb}
 use Rattle.answer.specs.declared.Answer.{Answer}
 use Rattle.answer.specs.Choice.{refuse, refuse-at, done-left, refused-left}
 use Rattle.answer.specs.Lists.{at}
-use Rattle.modular.specs.Verdicts.{offers, permitted-length, transform-verdict}
+use Rattle.modular_judgement.specs.Verdicts.{offers, permitted-length, transform-verdict}
 use Rattle.modular.specs.Outcomes.{TransformOutcome}
 use Rattle.request.specs.declared.reading.Many.the-variants.{All, Broken}
 use Rattle.request.specs.Requests.{Printed, many-at, values-at, refused, judged, with-both, with-table, with-head, asked, printed}

@@ -12,7 +12,7 @@ use Rattle.groups.specs.declared.Number.the-variants.{Value, Fault}
 use Rattle.groups.specs.Groups.{number-at}
 use Rattle.residues.specs.Moduli.{permits}
 use Rattle.residues.specs.Judgement.{bad-entry, bad-sample}
-use Rattle.modular.specs.Verdicts.{offers, permitted-length}
+use Rattle.modular_judgement.specs.Verdicts.{offers, permitted-length}
 use Rattle.modular.specs.Outcomes.{transformed}
 use Rattle.request.specs.declared.reading.Many.{Many}
 use Rattle.request.specs.declared.reading.Many.the-variants.{All, Broken}

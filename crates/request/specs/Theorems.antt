@@ -17,8 +17,9 @@ use Rattle.groups.specs.declared.Number.{Number}
 use Rattle.groups.specs.declared.Number.the-variants.{Value, Fault}
 use Rattle.groups.specs.Groups.{number-at}
 use Rattle.groups.specs.Theorems.{clash, number-begun, number-near}
-use Rattle.modular.specs.Verdicts.{offers, permitted-length, through-scratch, scratch-fits, lent-verdict, rest-verdict, transform-verdict}
-use Rattle.modular.specs.Outcomes.{transformed, cleared, TransformOutcome}
+use Rattle.modular_judgement.specs.Verdicts.{offers, permitted-length, through-scratch, scratch-fits, lent-verdict, rest-verdict, transform-verdict}
+use Rattle.modular_work.specs.Works.{cleared}
+use Rattle.modular.specs.Outcomes.{transformed, TransformOutcome}
 use Rattle.request.specs.declared.reading.Many.{Many}
 use Rattle.request.specs.declared.reading.Many.the-variants.{All, Broken}
 use Rattle.request.specs.Requests.{behind, many-at, and-behind, values-at, Printed, refused, refused-unless, follow, judged, with-both, with-table, with-head, asked, printed}

@@ -7,7 +7,7 @@ ghost use mathlib.Core.Bool.{true};
 ghost use Prim.Native.Nat.{_/_, _≤_};
 ghost use lib.ListN.{length, take};
 ghost use lib.Seq.{sets};
-ghost use Rattle.modular.specs.Verdicts.{offers, permitted-length};
+ghost use Rattle.modular_judgement.specs.Verdicts.{offers, permitted-length};
 ghost use Rattle.request.specs.Requests.{with-table, with-head, asked};
 ghost use Rattle.request.specs.Outcomes.{Given, RequestOutcome};
 
@@ -126,7 +126,7 @@ fn size(n: u32) -> usize
 fn asked(s: &[u8], m: u32, schedule: u32, n: usize, p: usize, results: &mut [u32; 4096]) -> Reply
     ensures { λ r. ⌜ Given (asked (now (s .entry)) m schedule n p) (now (results .entry)) (r .answer) (r .count) (now (results .exit)) ⌝ }
 {
-    if !modular::offered(schedule) {
+    if !modular_judgement::offered(schedule) {
         return Reply {
             answer: answer::SCHEDULE,
             count: 0,

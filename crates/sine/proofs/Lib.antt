@@ -1,4 +1,2 @@
 -- Laws that serve proofs of code.
-pub mod Signed
-pub mod Rules
 pub mod Numbers

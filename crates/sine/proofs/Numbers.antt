@@ -12,7 +12,8 @@ use Rattle.answer.specs.Lengths.{log-of, permitted-log}
 use Rattle.fourier.specs.Sizes.{two-halves}
 use Rattle.points.specs.Interleaved.{number, part}
 use Rattle.sine.specs.Constant.{sine}
-use Rattle.sine.specs.Rules.{accepted-turns, Small, re-small, im-small}
+use Rattle.rules.specs.Pairs.{Small, re-small, im-small}
+use Rattle.tables.specs.Rules.{accepted-turns}
 use Rattle.sine.specs.Sine.{sine-pair, whole, stride, sine-accepted}
 
 -- Each is part of a sized pair.

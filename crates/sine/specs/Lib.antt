@@ -1,6 +1,5 @@
--- Tables in fixed point: the rules, the sine table, and the calls that need a table alone.
-pub mod Rules
+-- The sine table, the filling of tables from it, and their beginnings.
 pub mod Constant
 pub mod Sine
-pub mod Calls
+pub mod Filling
 pub mod Beginnings

@@ -17,7 +17,8 @@ use Rattle.fourier.specs.Sizes.{rows, two-halves}
 use Rattle.points.specs.Interleaved.{number, point, interleaved, point-interleaved}
 use Rattle.points.specs.declared.Point.{Point}
 use Rattle.sine.specs.Constant.{sine}
-use Rattle.sine.specs.Rules.{half-turn, entry, starts, sized, follows, linked, rule, Accepted, entry-pair, entry-closing, accepted-as}
+use Rattle.rules.specs.Pairs.{starts, sized, follows}
+use Rattle.tables.specs.Rules.{half-turn, entry, linked, rule, Accepted, entry-pair, entry-closing, accepted-as}
 
 -- ---- definitions
 

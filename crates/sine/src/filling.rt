@@ -5,7 +5,7 @@ ghost use Prim.Native.Nat.{_/_, _≤_};
 ghost use lib.ListN.{length};
 ghost use Rattle.answer.specs.Lengths.{log-of};
 ghost use Rattle.sine.specs.Sine.{sine-table};
-ghost use Rattle.sine.specs.Calls.{FillOutcome};
+ghost use Rattle.sine.specs.Filling.{FillOutcome};
 
 // Fills a table of N numbers with our own table for N. Refusal 3; it changes nothing.
 pub fn fill(table: &mut [i32]) -> Answer

@@ -3,9 +3,9 @@ use mathlib.Core.Path.{_≡_}
 use mathlib.Core.Bool.{true}
 use lib.ListN.{length}
 use borrow.Author.Needs.{needs}
-use Rattle.fixed.specs.Verdicts.{permitted-length, reverse-verdict}
-use Rattle.fixed.specs.Ready.{permitted-points}
-use Rattle.fixed.proofs.Tests.{long}
+use Rattle.fixed_judgement.specs.Verdicts.{permitted-length, reverse-verdict}
+use Rattle.fixed_judgement.specs.Ready.{permitted-points}
+use Rattle.fixed_judgement.proofs.Tests.{long}
 use Rattle.fixed.proofs.reversing.reverse.Statement.{statement}
 use Rattle.fixed.proofs.reversing.reverse.Tie as tie
 

@@ -1,12 +1,16 @@
 -- What was judged 0 is ready for the schedules, and a refusal writes nothing.
 use mathlib.Core.Path.{_≡_, sym, _∙_}
 use mathlib.Core.Bool.{true}
+use mathlib.Core.List.{List}
+use lib.IntN.{ℤ}
 use lib.ListN.{length}
 use borrow.Author.Needs.{needs}
 use Rattle.answer.specs.declared.Answer.{Answer}
 use Rattle.answer.specs.Choice.{done-left, refused-left}
-use Rattle.fixed.specs.Verdicts.{offers, scratch-fits, transform-verdict}
-use Rattle.fixed.specs.Ready.{Ready, transform-ready, ready-scanned, offers-range}
+use Rattle.points.specs.Growth.{grow}
+use Rattle.scans.specs.Scans.{Scanned}
+use Rattle.fixed_judgement.specs.Verdicts.{offers, scratch-fits, transform-verdict}
+use Rattle.fixed_judgement.specs.Ready.{Ready, transform-ready, table-turns, offers-range}
 use Rattle.fixed.proofs.transforming.transform.Statement.{statement}
 use Rattle.fixed.proofs.transforming.transform.Tie as tie
 
@@ -20,6 +24,11 @@ zero c = rw (c .before .before .judge-transform .ensures) at (c .if1 .left)
 
 ready : (c : tie.Else1) → (let s = c .before .before .before .before .args in (offers (s .schedule) ≡ true) × (Ready (s .buf .now) (s .table .now)) × (scratch-fits (s .schedule) (length (s .scratch .now)) (length (s .buf .now)) ≡ true))
 ready c = transform-ready _ _ _ _ (zero c)
+
+-- What the schedules ask.
+scanned : {buf table : List ℤ} → Ready buf table → Scanned (grow 0) table buf
+unfolding grow
+scanned r = record { turns = table-turns r; each = r .sized }
 
 judge-transform-requires : tie.Need-judge-transform-requires
 judge-transform-requires c κs = search needs
@@ -42,7 +51,7 @@ do-schedule-requires c κs =
     let n = c .before .before .points-log .ensures in
     let r = ready (c .before .before .before) in
     let range = offers-range _ (r .0) in
-    (ready-scanned (r .1), (rw n (r .1 .points .some, r .1 .points .few, r .1 .points .whole, r .1 .long), (range .0, range .1, r .2)))
+    (scanned (r .1), (rw n (r .1 .points .some, r .1 .points .few, r .1 .points .whole, r .1 .long), (range .0, range .1, r .2)))
 
 same-length-2 : tie.Need-same-length-2
 same-length-2 c = search needs

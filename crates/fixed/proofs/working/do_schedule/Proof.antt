@@ -5,7 +5,7 @@ use lib.ListN.{length}
 use borrow.Author.Tests.{eqb-true}
 use borrow.Author.Needs.{needs}
 use Rattle.fourier.specs.Halves.{halves-once}
-use Rattle.fixed.specs.Verdicts.{scratch-fits}
+use Rattle.fixed_judgement.specs.Verdicts.{scratch-fits}
 use Rattle.fixed.specs.Outcomes.{by-schedule, cleared}
 use Rattle.fixed.proofs.working.do_schedule.Statement.{statement}
 use Rattle.fixed.proofs.working.do_schedule.Tie as tie

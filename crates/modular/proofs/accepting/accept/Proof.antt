@@ -4,10 +4,10 @@ use mathlib.Core.Bool.{true}
 use native.Mathlib.Omega.{arith}
 use lib.ListN.{length}
 use Rattle.residues.specs.Moduli.{permits, permits-permitted}
-use Rattle.modular.specs.Verdicts.{accept-verdict}
+use Rattle.modular_judgement.specs.Verdicts.{accept-verdict}
 use Rattle.answer.specs.Lengths.{table-log}
 use lib.Dec.{ltb}
-use Rattle.modular.proofs.Tests.{passed, failed, long, long-half}
+use Rattle.modular_judgement.proofs.Tests.{passed, failed, long, long-half}
 use borrow.Author.Needs.{needs}
 use Rattle.modular.proofs.accepting.accept.Statement.{statement}
 use Rattle.modular.proofs.accepting.accept.Tie as tie

@@ -1,5 +1,5 @@
 use Rattle.answer.specs.Lengths.{log-of}
-use Rattle.modular.specs.Ready.{inverse-ready}
+use Rattle.modular_judgement.specs.Ready.{inverse-ready}
 use Rattle.modular.proofs.Leaving.{refused, worked}
 use borrow.Author.Needs.{needs}
 use Rattle.modular.proofs.inverting.inverse.Statement.{statement}
@@ -7,7 +7,7 @@ use Rattle.modular.proofs.inverting.inverse.Tie as tie
 use Rattle.modular.proofs.inverting.inverse.Reads as reads
 use Rattle.modular.proofs.inverting.inverse.Lts as lts
 use Rattle.answer.proofs.log_of.Reads as log-of-reads
-use Rattle.modular.proofs.judging.judge_inverse.Reads as judge-inverse-reads
+use Rattle.modular_judgement.proofs.judge_inverse.Reads as judge-inverse-reads
 use Rattle.runs.proofs.invert.Reads as invert-reads
 
 judge-inverse-requires : tie.Need-judge-inverse-requires

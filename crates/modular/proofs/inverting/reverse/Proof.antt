@@ -3,9 +3,9 @@ use Rattle.answer.specs.Choice.{refuse, done}
 use mathlib.Core.Path.{_≡_, refl}
 use Rattle.answer.specs.Lengths.{log-of, permitted-log}
 use Rattle.modular.proofs.Leaving.{refused, worked}
-use Rattle.modular.proofs.Tests.{long}
+use Rattle.modular_judgement.proofs.Tests.{long}
 use borrow.Author.Tests.{ltb-true}
-use Rattle.modular.specs.Verdicts.{reverse-verdict}
+use Rattle.modular_judgement.specs.Verdicts.{reverse-verdict}
 use borrow.Author.Needs.{needs}
 use Rattle.modular.proofs.inverting.reverse.Statement.{statement}
 use Rattle.modular.proofs.inverting.reverse.Tie as tie

@@ -1,19 +1,19 @@
 use mathlib.Core.Path.{_≡_}
 use Rattle.answer.specs.Lengths.{log-of}
-use Rattle.modular.specs.Ready.{Ready, stage-ready, offers-stage-range}
+use Rattle.modular_judgement.specs.Ready.{Ready, stage-ready, offers-stage-range}
 use Rattle.modular.proofs.Leaving.{refused, worked}
 use Prim.Native.Nat.{_<_}
 use lib.ListN.{length}
 use mathlib.Core.Bool.{true}
-use Rattle.modular.specs.Verdicts.{offers-stage, scratch-fits}
+use Rattle.modular_judgement.specs.Verdicts.{offers-stage, scratch-fits}
 use borrow.Author.Needs.{needs}
 use Rattle.modular.proofs.staging.stage.Statement.{statement}
 use Rattle.modular.proofs.staging.stage.Tie as tie
 use Rattle.modular.proofs.staging.stage.Reads as reads
 use Rattle.modular.proofs.staging.stage.Lts as lts
 use Rattle.answer.proofs.log_of.Reads as log-of-reads
-use Rattle.modular.proofs.judging.judge_stage.Reads as judge-stage-reads
-use Rattle.modular.proofs.working.do_stage.Reads as do-stage-reads
+use Rattle.modular_judgement.proofs.judge_stage.Reads as judge-stage-reads
+use Rattle.modular_work.proofs.do_stage.Reads as do-stage-reads
 
 -- The judgement was passed.
 ready : (c : tie.Else1) → (let s = c .before .before .before .before .before .before .before .args in (offers-stage (s .schedule) ≡ true) × (s .s < log-of (length (s .buf .now))) × (Ready (s .buf .now) (s .m) (s .table .now)) × (scratch-fits (s .schedule) (length (s .scratch .now)) (length (s .buf .now)) ≡ true))

@@ -1,18 +1,18 @@
 use mathlib.Core.Path.{_≡_}
 use Rattle.answer.specs.Lengths.{log-of}
-use Rattle.modular.specs.Ready.{Ready, transform-ready, offers-range}
+use Rattle.modular_judgement.specs.Ready.{Ready, transform-ready, offers-range}
 use Rattle.modular.proofs.Leaving.{refused, worked}
 use lib.ListN.{length}
 use mathlib.Core.Bool.{true}
-use Rattle.modular.specs.Verdicts.{offers, scratch-fits}
+use Rattle.modular_judgement.specs.Verdicts.{offers, scratch-fits}
 use borrow.Author.Needs.{needs}
 use Rattle.modular.proofs.transforming.transform.Statement.{statement}
 use Rattle.modular.proofs.transforming.transform.Tie as tie
 use Rattle.modular.proofs.transforming.transform.Reads as reads
 use Rattle.modular.proofs.transforming.transform.Lts as lts
 use Rattle.answer.proofs.log_of.Reads as log-of-reads
-use Rattle.modular.proofs.judging.judge_transform.Reads as judge-transform-reads
-use Rattle.modular.proofs.working.do_schedule.Reads as do-schedule-reads
+use Rattle.modular_judgement.proofs.judge_transform.Reads as judge-transform-reads
+use Rattle.modular_work.proofs.do_schedule.Reads as do-schedule-reads
 
 -- The judgement was passed.
 ready : (c : tie.Else1) → (let s = c .before .before .before .before .before .before .before .args in (offers (s .schedule) ≡ true) × (Ready (s .buf .now) (s .m) (s .table .now)) × (scratch-fits (s .schedule) (length (s .scratch .now)) (length (s .buf .now)) ≡ true))

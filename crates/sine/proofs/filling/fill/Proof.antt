@@ -6,7 +6,7 @@ use lib.ListN.{length}
 use borrow.Author.Needs.{needs}
 use borrow.Author.Tests.{lt-ltb}
 use Rattle.answer.specs.Lengths.{log-of, permitted-range}
-use Rattle.sine.specs.Calls.{fixed-fill-verdict}
+use Rattle.sine.specs.Filling.{fixed-fill-verdict}
 use Rattle.sine.proofs.filling.fill.Statement.{statement}
 use Rattle.sine.proofs.filling.fill.Tie as tie
 

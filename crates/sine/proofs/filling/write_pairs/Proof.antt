@@ -12,7 +12,7 @@ use Rattle.fourier.specs.Sizes.{two-halves}
 use Rattle.points.specs.Interleaved.{number, part}
 use Rattle.sine.specs.Sine.{sine-pair, sine-table}
 use Rattle.sine.proofs.Numbers.{constant-small, source, source-below, source-part}
-use Rattle.sine.proofs.Signed.{small-back}
+use Rattle.rules.proofs.Signed.{small-back}
 use Rattle.sine.proofs.filling.write_pairs.Statement.{statement}
 use Rattle.sine.proofs.filling.write_pairs.Tie as tie
 
