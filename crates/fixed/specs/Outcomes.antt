@@ -2,38 +2,24 @@
 -- No second outcome satisfies any of these. Those of accept and fill stand in `tables` and `sine`.
 use Prim.Native.Nat.{ℕ, _^_}
 use mathlib.Core.Path.{_≡_, sym, _∙_}
-use mathlib.Core.Bool.{cond}
 use mathlib.Core.List.{List}
-use lib.Dec.{eqb}
 use lib.IntN.{ℤ}
 use lib.ListN.{length}
 use Rattle.answer.specs.declared.Answer.{Answer}
 use Rattle.answer.specs.Choice.{if-done}
 use Rattle.fourier.specs.Reverse.{rev}
-use Rattle.fourier.specs.Schedules.{Schedule, schedule1, schedule2, schedule3}
 use Rattle.points.specs.declared.Point.{Point}
 use Rattle.points.specs.Interleaved.{point, interleaved}
 use Rattle.points.specs.Rounding.{half-up}
 use Rattle.points.specs.Steps.{rounded}
-use Rattle.scans.specs.Scans.{zeros}
 use Rattle.fixed_judgement.specs.Verdicts.{points-log, transform-verdict, reverse-verdict}
+use Rattle.fixed_work.specs.Works.{by-schedule, cleared}
 
 -- ---- transform
 
--- The schedule of N = 2^n points.
-unfoldable pub by-schedule : ℕ → ℕ → Schedule
-by-schedule schedule n C w d =
-    cond (eqb schedule 1) (schedule1 n C w d)
-    (cond (eqb schedule 2) (schedule2 n C w d)
-    (schedule3 n C w d))
-
--- What it leaves, "each part .. worked out whole and rounded once".
+-- What the schedule leaves, "each part .. worked out whole and rounded once".
 abbrev pub transformed : ℕ → List ℤ → List ℤ → List ℤ
 transformed schedule buf table = let n = points-log (length buf) in interleaved (2 ^ n) (by-schedule schedule n Point (rounded half-up (point table)) (point buf))
-
--- Scratch "is all zeros after success. Elsewhere it is neither tested nor touched".
-unfoldable pub cleared : ℕ → List ℤ → List ℤ
-cleared schedule scratch = cond (eqb schedule 2) (zeros (length scratch)) scratch
 
 pub record TransformOutcome (schedule : ℕ) (buf table scratch : List ℤ) (answer : Answer) (buf′ scratch′ : List ℤ) : Type 0 where
   pub answers : answer ≡ transform-verdict schedule buf table (length scratch)

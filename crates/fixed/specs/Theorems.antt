@@ -29,7 +29,8 @@ use Rattle.sine.specs.Sine.{sine-table, sine-table-length}
 use Rattle.sine.specs.Filling.{FillOutcome, sine-table-done, filled}
 use Rattle.sine.specs.Beginnings.{beginning-bad, beginning-length}
 use Rattle.fixed_judgement.specs.Verdicts.{points-log, permitted-length, ranged, bad-sample, scratch-fits, offers, transform-verdict, reverse-verdict}
-use Rattle.fixed.specs.Outcomes.{by-schedule, transformed, TransformOutcome, reversed, ReverseOutcome}
+use Rattle.fixed_work.specs.Works.{by-schedule}
+use Rattle.fixed.specs.Outcomes.{transformed, TransformOutcome, reversed, ReverseOutcome}
 use Rattle.fixed_judgement.specs.Ready.{Points, permitted-points, power-points, Ready, transform-ready, ready-turns, offers-range}
 
 -- ---- the transform leaves what the schedule says, rounded

@@ -1,5 +1,4 @@
 // The transform.
-use crate::working;
 use answer::Answer;
 ghost use Rattle.fixed.specs.Outcomes.{TransformOutcome};
 
@@ -13,6 +12,6 @@ pub fn transform(schedule: u32, buf: &mut [i32], table: &[i32], scratch: &mut [i
         return verdict;
     }
     let n = fixed_judgement::points_log(buf.len());
-    working::do_schedule(schedule, buf, table, n, scratch);
+    fixed_work::do_schedule(schedule, buf, table, n, scratch);
     verdict
 }

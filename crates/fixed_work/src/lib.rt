@@ -1,4 +1,4 @@
-// The work itself, on what was judged.
+// The work of the transform in fixed point, on what was judged.
 ghost use mathlib.Core.Bool.{true};
 ghost use mathlib.Core.Path.{_≡_};
 ghost use Prim.Native.Nat.{_+_, _^_, _≤_};
@@ -10,7 +10,7 @@ ghost use Rattle.points.specs.Steps.{rounded};
 ghost use Rattle.points.specs.Growth.{grow};
 ghost use Rattle.scans.specs.Scans.{Scanned};
 ghost use Rattle.fixed_judgement.specs.Verdicts.{scratch-fits};
-ghost use Rattle.fixed.specs.Outcomes.{by-schedule, cleared};
+ghost use Rattle.fixed_work.specs.Works.{by-schedule, cleared};
 
 // All n stages of the schedule.
 pub fn do_schedule(schedule: u32, buf: &mut [i32], table: &[i32], n: usize, scratch: &mut [i32])

@@ -6,9 +6,9 @@ use borrow.Author.Tests.{eqb-true}
 use borrow.Author.Needs.{needs}
 use Rattle.fourier.specs.Halves.{halves-once}
 use Rattle.fixed_judgement.specs.Verdicts.{scratch-fits}
-use Rattle.fixed.specs.Outcomes.{by-schedule, cleared}
-use Rattle.fixed.proofs.working.do_schedule.Statement.{statement}
-use Rattle.fixed.proofs.working.do_schedule.Tie as tie
+use Rattle.fixed_work.specs.Works.{by-schedule, cleared}
+use Rattle.fixed_work.proofs.do_schedule.Statement.{statement}
+use Rattle.fixed_work.proofs.do_schedule.Tie as tie
 
 -- Where no other schedule is left it is 3.
 three : (c : tie.Else2) → c .before .before .args .schedule ≡ 3
