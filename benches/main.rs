@@ -29,19 +29,22 @@ const FIXED: [Fixed; 3] = [
     ("3, by halves", NEAR, plain::fixed::halves),
 ];
 
-// One turn of one contender, on fresh samples: its time in microseconds.
+type Run<'a, T> = Box<dyn FnMut(&mut [T], &mut [T]) + 'a>;
+
+// A transform with the buffers that it is given, and the smallest of its times so far, in microseconds.
 struct Contender<'a, T> {
-    run: &'a mut dyn FnMut(&mut [T], &mut [T]),
+    run: Run<'a, T>,
     buf: Vec<T>,
     scratch: Vec<T>,
     smallest: f64,
 }
 
 impl<'a, T: Copy + Default> Contender<'a, T> {
-    fn new(len: usize, run: &'a mut dyn FnMut(&mut [T], &mut [T])) -> Self {
+    fn new(len: usize, run: Run<'a, T>) -> Self {
         Contender { run, buf: vec![T::default(); len], scratch: vec![T::default(); len], smallest: f64::MAX }
     }
 
+    // One turn, on fresh samples.
     fn turn(&mut self, samples: &[T]) {
         self.buf.copy_from_slice(samples);
         let begun = Instant::now();
@@ -52,14 +55,8 @@ impl<'a, T: Copy + Default> Contender<'a, T> {
 }
 
 // The smallest times of plain Rust, the kernel and the call, which must leave the same.
-fn race<T: Copy + Default + PartialEq>(
-    turns: usize,
-    samples: &[T],
-    plain: &mut dyn FnMut(&mut [T], &mut [T]),
-    kernel: &mut dyn FnMut(&mut [T], &mut [T]),
-    call: &mut dyn FnMut(&mut [T], &mut [T]),
-) -> [f64; 3] {
-    let mut all = [plain, kernel, call].map(|run| Contender::new(samples.len(), run));
+fn race<T: Copy + Default + PartialEq>(turns: usize, samples: &[T], runs: [Run<T>; 3]) -> [f64; 3] {
+    let mut all = runs.map(|run| Contender::new(samples.len(), run));
     for _ in 0..turns {
         all.iter_mut().for_each(|c| c.turn(samples));
     }
@@ -69,8 +66,7 @@ fn race<T: Copy + Default + PartialEq>(
 
 // The smallest time of something that needs nothing here.
 fn alone(turns: usize, run: unsafe extern "C" fn()) -> f64 {
-    let mut nothing = |_: &mut [u8], _: &mut [u8]| unsafe { run() };
-    let mut contender = Contender::new(0, &mut nothing);
+    let mut contender = Contender::<u8>::new(0, Box::new(|_, _| unsafe { run() }));
     (0..turns).for_each(|_| contender.turn(&[]));
     contender.smallest
 }
@@ -111,9 +107,11 @@ fn main() {
             let times = race(
                 turns,
                 &samples,
-                &mut |buf, scratch| rust(buf, m, &table, scratch),
-                &mut |buf, scratch| library::modular_kernel(schedule, buf, m, &table, scratch),
-                &mut |buf, scratch| library::modular_call(schedule, buf, m, &table, scratch),
+                [
+                    Box::new(|buf, scratch| rust(buf, m, &table, scratch)),
+                    Box::new(|buf, scratch| library::modular_kernel(schedule, buf, m, &table, scratch)),
+                    Box::new(|buf, scratch| library::modular_call(schedule, buf, m, &table, scratch)),
+                ],
             );
             held &= row("modular", size, name, bars, times);
             best = best.min(times[2]);
@@ -130,9 +128,11 @@ fn main() {
             let times = race(
                 turns,
                 &samples,
-                &mut |buf, scratch| rust(buf, &table, scratch),
-                &mut |buf, scratch| library::fixed_kernel(schedule, buf, &table, scratch),
-                &mut |buf, scratch| library::fixed_call(schedule, buf, &table, scratch),
+                [
+                    Box::new(|buf, scratch| rust(buf, &table, scratch)),
+                    Box::new(|buf, scratch| library::fixed_kernel(schedule, buf, &table, scratch)),
+                    Box::new(|buf, scratch| library::fixed_call(schedule, buf, &table, scratch)),
+                ],
             );
             held &= row("fixed", size, name, bars, times);
             best = best.min(times[2]);
