@@ -36,11 +36,9 @@ static uint32_t *lend(size_t count) {
     return room + 1;
 }
 
-static void take_back(uint32_t *lent, size_t count) {
+static void look_beside(const uint32_t *lent, size_t count) {
     if (lent[-1] != GUARD || lent[count] != GUARD)
         stop("a word beside what was lent is changed");
-    put(lent, count);
-    free(lent - 1);
 }
 
 static fdr_found make(const head *h, uint32_t *const parts[PARTS]) {
@@ -82,12 +80,16 @@ int main(void) {
         for (int i = 0; i < PARTS; i++)
             parts[i] = lend(h.lengths[i]);
         fdr_found found = make(&h, parts);
+        for (int i = 0; i < PARTS; i++)
+            look_beside(parts[i], h.lengths[i]);
         uint64_t place = found.answer.place;
         put((uint32_t[]){found.answer.number, (uint32_t)place, (uint32_t)(place >> 32)}, 3);
         put(&found.setting.modulus, 1);
         put(found.setting.roots, 12);
-        for (int i = 0; i < PARTS; i++)
-            take_back(parts[i], h.lengths[i]);
+        for (int i = 0; i < PARTS; i++) {
+            put(parts[i], h.lengths[i]);
+            free(parts[i] - 1);
+        }
     }
     return 0;
 }

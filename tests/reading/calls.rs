@@ -56,14 +56,16 @@ pub struct Call {
 impl Display for Call {
     fn fmt(&self, out: &mut Formatter) -> Result {
         writeln!(out, "{}", FUNCTIONS[self.function as usize].0)?;
-        let (schedule, stage, modulus) = (self.schedule, self.stage, self.modulus);
-        writeln!(out, "schedule {schedule}, stage {stage}")?;
-        writeln!(out, "modulus or row {modulus}, roots {:?}", self.roots)?;
+        writeln!(out, "schedule {}, stage {}", self.schedule, self.stage)?;
+        write!(
+            out,
+            "modulus or row {}, roots {:?}",
+            self.modulus, self.roots
+        )?;
         for (name, part) in ["buf", "table", "scratch"].iter().zip(self.lent()) {
-            write!(out, "{name}, {} words:", part.len())?;
-            part.iter()
-                .try_for_each(|&v| write!(out, " {}", self.shown(v)))?;
-            writeln!(out)?;
+            write!(out, "\n{name}, {} words:", part.len())?;
+            let mut word = |&v| write!(out, " {}", self.shown(v));
+            part.iter().try_for_each(&mut word)?;
         }
         Ok(())
     }

@@ -117,10 +117,9 @@ pub fn requests(directory: &str, command: &[String], seed: u64) -> Report {
         let output = child.wait_with_output().map_err(failed)?;
         let (found, wanted) = (String::from_utf8_lossy(&output.stdout), dft(request));
         if found != wanted {
-            let lines = format!("the reading prints {wanted}dft prints {found}");
-            return Err(format!(
-                "request {place} of {count}:\n{lines}\n{request:02x?}"
-            ));
+            let lines = format!("the reading prints {wanted:?}\ndft prints {found:?}");
+            let bytes = format!("the request is {request:02x?}");
+            return Err(format!("request {place} of {count}:\n{lines}\n{bytes}"));
         }
     }
     Ok(format!("{count} requests of dft agree"))

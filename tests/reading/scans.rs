@@ -55,8 +55,7 @@ pub fn all(random: Random) -> Vec<Call> {
     scans.refused_samples();
     scans.several_faults();
     scans.any_tables();
-    scans.reversals();
-    scans.fillings();
+    scans.reversals_and_fillings();
     scans.calls
 }
 
@@ -373,28 +372,20 @@ impl Scans {
         }
     }
 
-    fn reversals(&mut self) {
-        let right = (1..=12).map(|n| 2 << n);
-        let mut bufs: Vec<Vec<i32>> = right.chain(0..=24).map(distinct).collect();
-        bufs.extend((1..=5).map(|n| (0..1 << n).flat_map(|i| [MIN + i, MAX - i]).collect()));
-        bufs.extend(lengths_often().into_iter().map(|length| self.any(length)));
-        for buf in bufs {
+    /// Numbers that are all different, the ends of the range, and any.
+    fn reversals_and_fillings(&mut self) {
+        let mut lent: Vec<Vec<i32>> = lengths().into_iter().map(distinct).collect();
+        lent.extend((1..=5).map(|n| (0..1 << n).flat_map(|i| [MIN + i, MAX - i]).collect()));
+        lent.extend(lengths_often().into_iter().map(|length| self.any(length)));
+        for numbers in lent {
             self.add(Scan {
                 function: FixedReverse,
-                buf,
+                buf: numbers.clone(),
                 ..Scan::default()
             });
-        }
-    }
-
-    fn fillings(&mut self) {
-        let right = (1..=12).map(|n| 1 << n);
-        let mut tables: Vec<Vec<i32>> = right.chain(0..=24).map(distinct).collect();
-        tables.extend(lengths_often().into_iter().map(|length| self.any(length)));
-        for table in tables {
             self.add(Scan {
                 function: FixedFill,
-                table,
+                table: numbers,
                 ..Scan::default()
             });
         }
