@@ -11,9 +11,9 @@ x86_64) compiler=cc ;;
 *)
     compiler='x86_64-linux-gnu-gcc -static'
     if ! command -v x86_64-linux-gnu-gcc >/dev/null; then
-        told=$(apt-get install -y gcc-x86-64-linux-gnu 2>&1) || {
+        told=$(apt-get update 2>&1 && apt-get install -y gcc-x86-64-linux-gnu libc6-dev-amd64-cross 2>&1) || {
             echo "$told"
-            echo "no x86_64-linux-gnu-gcc, and Debian's package gcc-x86-64-linux-gnu could not be installed"
+            echo "there is no x86_64-linux-gnu-gcc, and Debian's package gcc-x86-64-linux-gnu could not be installed"
             exit 1
         }
     fi
