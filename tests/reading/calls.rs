@@ -8,12 +8,12 @@ use std::fmt::{Display, Formatter, Result};
 /// The calls, in the header's order.
 #[derive(Clone, Copy, Debug, Default, PartialEq, Eq)]
 pub enum Function {
+    #[default]
     ModularAccept,
     ModularTransform,
     ModularStage,
     ModularInverse,
     ModularReverse,
-    #[default]
     HouseRow,
     ModularFill,
     FixedAccept,

@@ -45,8 +45,11 @@ fn started(command: &[String], input: Stdio) -> Result<Child, String> {
 
 /// Writes the records, all or until the program ends.
 fn feed(calls: &[Call], mut input: impl Write) {
-    let mut written = |call: &Call| input.write_all(&call.record()).is_ok();
-    calls.iter().all(|call| written(call));
+    for call in calls {
+        if input.write_all(&call.record()).is_err() {
+            return;
+        }
+    }
 }
 
 /// Counts what the library answers, up to the first difference.

@@ -252,6 +252,7 @@ impl Residues {
         let any = self.random.words(1000);
         for row in (0..1000).chain(ends).chain(any) {
             self.calls.push(Call {
+                function: HouseRow,
                 modulus: row,
                 ..Call::default()
             });
