@@ -74,7 +74,7 @@ fdr_answer fdr_modular_accept(uint32_t m, const uint32_t *table, size_t table_le
  * bits of j; 4 (Thong T1) takes them in bit-reversed order and leaves f(j) at place j.
  * Refusals, in order: 7, 1, 2, 6, 3, 4, 5.
  *
- *     uint32_t table[2] = {1, 2}, buf[4] = {1, 2, 3, 4}, scratch[4];
+ *     uint32_t table[2] = {1, 2}, buf[4] = {1, 2, 3, 4}, scratch[4] = {0};
  *     answer = fdr_modular_transform(2, buf, 4, 5, table, 2, scratch, 4);      // 0; buf is 0 3 4 2, scratch 0 0 0 0
  */
 fdr_answer fdr_modular_transform(uint32_t schedule, uint32_t *buf, size_t buf_len, uint32_t m, const uint32_t *table,
@@ -120,7 +120,7 @@ fdr_found fdr_house_row(uint32_t row);
  * Fills the table, N/2 entries, with the powers of the setting's root for N. The setting may come from anyone.
  * Refusals, in order: 2, 3, 4 (the root for N is not below the modulus, or its power N/2 is not -1; place N/2).
  *
- *     uint32_t table[512];
+ *     uint32_t table[512] = {0};
  *     answer = fdr_modular_fill(fdr_house_row(0).setting, table, 512);         // 0; a table for 1,024 points
  */
 fdr_answer fdr_modular_fill(fdr_setting setting, uint32_t *table, size_t table_len);
@@ -160,7 +160,7 @@ fdr_answer fdr_fixed_reverse(int32_t *buf, size_t buf_len);
  * Fills the table, N numbers, with the nearest whole numbers to 16,384 times cosine and sine for N points.
  * Refusals: 3.
  *
- *     int32_t table[1024];
+ *     int32_t table[1024] = {0};
  *     answer = fdr_fixed_fill(table, 1024);                                    // 0; a table for 1,024 points
  */
 fdr_answer fdr_fixed_fill(int32_t *table, size_t table_len);

@@ -17,12 +17,10 @@ case $(sh examples/program.sh target/bin/dft <"$room/scan") in
 esac
 
 # directly, without the script's own time
-tools=$(dirname "$(dirname "$(rt doc)")")/on/$(uname -m)/toolchain
-emulator=$tools/bin/qemu-x86_64
-[ -x "$emulator" ] || emulator=''
+. examples/kit.sh
 least() { # PROGRAM LEAST: the smaller of LEAST and the time of one run, in nanoseconds
     from=$(date +%s%N)
-    $emulator "$tools/lib/ld-linux-x86-64.so.2" --library-path "$tools/lib" "$1" <"$room/scan" >/dev/null || exit 1
+    $loader "$1" <"$room/scan" >/dev/null || exit 1
     to=$(date +%s%N)
     if [ $((to - from)) -lt "$2" ]; then echo $((to - from)); else echo "$2"; fi
 }

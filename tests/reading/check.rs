@@ -1,10 +1,10 @@
 //! Self-checks: document 01's bench values, and the reading against itself.
 
 use crate::fixed::*;
-use crate::program::{dft, number, numbers};
+use crate::program::dft;
 use crate::random::Random;
 use crate::reading::*;
-use crate::scans::{self, folded, Call};
+use crate::roots::{least_root, powers};
 use crate::tables::*;
 
 struct Checks {
@@ -52,19 +52,7 @@ pub fn all() -> usize {
     fixed_refusals(&mut checks);
     program(&mut checks);
     lent_tables(&mut checks);
-    records(&mut checks);
     checks.count
-}
-
-/// The least x whose power N/2 is -1.
-pub fn least_root(m: u32, n: usize) -> u32 {
-    let is_root = |&x: &u32| power(x, 1 << (n - 1), m) == m - 1;
-    (1..m).find(is_root).expect("a root")
-}
-
-/// The powers of x below N/2.
-pub fn powers(m: u32, x: u32, n: usize) -> Vec<u32> {
-    (0..1 << (n - 1)).map(|e| power(x, e, m)).collect()
 }
 
 /// A transform of a copy, its scratch judged too: "all zeros after success",
@@ -165,10 +153,7 @@ fn house(checks: &mut Checks) {
         }
     }
     for row in [3, usize::MAX] {
-        let zeros = Setting {
-            modulus: 0,
-            roots: [0; 12],
-        };
+        let zeros = Setting::default();
         checks.same("no such row", house_row(row), (refused(9, 0), zeros));
     }
 }
@@ -433,55 +418,5 @@ fn lent_tables(checks: &mut Checks) {
     for (second, difference) in [((1, 16383), 32768), ((0, 16385), 32769)] {
         let table = [16384, 0, second.0, second.1];
         checks.same("difference", difference_at(&table, 2), difference);
-    }
-}
-
-/// Reads a call as it was written.
-fn read_call(bytes: &[u8], place: &mut usize) -> Result<Call, Answer> {
-    let (call, schedule) = (number(bytes, place)?, number(bytes, place)?);
-    let lengths = numbers(bytes, place, 3)?;
-    let mut lent = Vec::new();
-    for length in lengths {
-        let read = numbers(bytes, place, length as usize)?;
-        // Twice a number, or one less than twice its size.
-        let signed = |u: u32| (u >> 1) as i32 ^ -((u & 1) as i32);
-        lent.push(read.into_iter().map(signed));
-    }
-    let mut next = || lent.remove(0).collect();
-    Ok(Call {
-        call,
-        schedule,
-        buf: next(),
-        table: next(),
-        scratch: next(),
-    })
-}
-
-/// The calls for the test program are read as they were meant, and every
-/// answer that a call has comes up.
-fn records(checks: &mut Checks) {
-    let ends = [0, -1, 1, i32::MAX, i32::MIN].map(folded);
-    checks.same("folded", ends, [0, 1, 2, u32::MAX - 1, u32::MAX]);
-    let calls = scans::all();
-    let bytes: Vec<u8> = calls.iter().flat_map(Call::bytes).collect();
-    let mut place = 0;
-    let read = |call: &Call| read_call(&bytes, &mut place).as_ref() == Ok(call);
-    checks.good("read as meant", calls.iter().all(read));
-    checks.same("nothing behind", place, bytes.len());
-    let small = |c: &Call| {
-        [&c.buf, &c.table, &c.scratch]
-            .iter()
-            .all(|p| p.len() <= 8200)
-    };
-    checks.good("lengths", calls.iter().all(small));
-    let transforms = [0, 1, 3, 4, 5, 6, 7];
-    let wanted: [&[u32]; 4] = [&[0, 3, 4], &transforms, &[0, 1], &[0, 3]];
-    for (call, numbers) in (1..).zip(wanted) {
-        let lines = calls.iter().filter(|c| c.call == call).map(Call::line);
-        let first = |line: String| line.split_once(' ').and_then(|(n, _)| n.parse().ok());
-        let mut found: Vec<u32> = lines.filter_map(first).collect();
-        found.sort();
-        found.dedup();
-        checks.same("answers of a call", &found[..], numbers);
     }
 }

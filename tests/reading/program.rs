@@ -18,7 +18,7 @@ pub fn seven_bit_groups(number: u64) -> Vec<u8> {
 /// not below 2^32 or with the top bit still set in its fifth byte, place its
 /// first byte; [...] input that ends before or inside a number, the input's
 /// length".
-pub fn number(input: &[u8], place: &mut usize) -> Result<u32, Answer> {
+fn number(input: &[u8], place: &mut usize) -> Result<u32, Answer> {
     let first = *place;
     let mut value: u64 = 0;
     for i in 0..5 {
@@ -38,7 +38,7 @@ pub fn number(input: &[u8], place: &mut usize) -> Result<u32, Answer> {
     Err(refused(10, first))
 }
 
-pub fn numbers(input: &[u8], place: &mut usize, count: usize) -> Result<Vec<u32>, Answer> {
+fn numbers(input: &[u8], place: &mut usize, count: usize) -> Result<Vec<u32>, Answer> {
     (0..count).map(|_| number(input, place)).collect()
 }
 

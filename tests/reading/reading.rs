@@ -363,7 +363,7 @@ pub fn reverse(buf: &mut [u32]) -> Answer {
 
 /// "the modulus together with its twelve roots, one per length": roots[n - 1]
 /// is for length 2^n.
-#[derive(Clone, Copy, Debug, PartialEq, Eq)]
+#[derive(Clone, Copy, Debug, Default, PartialEq, Eq)]
 pub struct Setting {
     pub modulus: u32,
     pub roots: [u32; 12],
@@ -374,10 +374,7 @@ pub const HOUSE_MODULI: [u32; 3] = [998244353, 469762049, 167772161];
 /// "The root for length 2^n is 3^((m-1)/2^n) modulo m, n from 1 to 12." A
 /// refusal "gives one of all zeros".
 pub fn house_row(row: usize) -> (Answer, Setting) {
-    let mut setting = Setting {
-        modulus: 0,
-        roots: [0; 12],
-    };
+    let mut setting = Setting::default();
     if row > 2 {
         return (refused(9, 0), setting);
     }

@@ -1,18 +1,13 @@
-//! Inputs for a test of `dft`, each with the line that it prints.
+//! Requests of `dft`, right and broken.
 
-use crate::check::{least_root, powers};
-use crate::inputs::{number, positions, Records};
-use crate::program::{dft, seven_bit_groups};
+use crate::inputs::positions;
+use crate::program::seven_bit_groups;
 use crate::random::Random;
-use crate::reading::{house_row, power};
+use crate::reading::power;
+use crate::roots::*;
 
 /// The bytes of each number of an input: m, schedule, N, table, samples.
 type Words = Vec<Vec<u8>>;
-
-/// A modulus, the root for N = 2^n, and n.
-type Root = (u32, u32, usize);
-
-const LARGEST: u32 = (1 << 31) - 1;
 
 /// Spellings of no number: not shortest, not below 2^32, or with the top bit
 /// still set in the fifth byte.
@@ -35,20 +30,10 @@ struct Requests {
     random: Random,
 }
 
-/// The records of all requests, each behind call 0, and the lines that they print.
-pub fn records() -> Records {
-    let mut records = Records::default();
-    for input in all() {
-        let length = seven_bit_groups(input.len() as u64);
-        records.add(&[&[0], &length[..], &input].concat(), &dft(&input));
-    }
-    records
-}
-
-fn all() -> Vec<Vec<u8>> {
+pub fn all(random: Random) -> Vec<Vec<u8>> {
     let mut requests = Requests {
         inputs: Vec::new(),
-        random: Random::new(0x5eed),
+        random,
     };
     requests.lengths();
     requests.moduli();
@@ -64,31 +49,8 @@ fn all() -> Vec<Vec<u8>> {
     requests.inputs
 }
 
-fn house_root(row: usize, n: usize) -> Root {
-    let setting = house_row(row).1;
-    (setting.modulus, setting.roots[n - 1], n)
-}
-
-fn searched_root(m: u32, n: usize) -> Root {
-    (m, least_root(m, n), n)
-}
-
-/// The largest m = a^(N/2) + 1 with a even; a is a root.
-fn power_and_one(n: usize) -> Root {
-    let half = 1 << (n - 1);
-    let fits = |a: &u64| a.checked_pow(half).is_some_and(|m| m < u64::from(LARGEST));
-    let a = (2..).step_by(2).take_while(fits).last().expect("an even a");
-    (a.pow(half) as u32 + 1, a as u32, n)
-}
-
-/// A large m that is 1 modulo 4096, with a root among powers of 3.
-fn near_largest(n: usize) -> Root {
-    let found = |m: u32| {
-        let x = power(3, (m as usize - 1) >> n, m);
-        (power(x, 1 << (n - 1), m) == m - 1).then_some((m, x, n))
-    };
-    let mut moduli = (1..LARGEST).rev().filter(|m| m % 4096 == 1);
-    moduli.find_map(found).expect("a modulus")
+fn number(value: u32) -> Vec<u8> {
+    seven_bit_groups(u64::from(value))
 }
 
 /// The words with some of them spelt otherwise.
@@ -155,15 +117,9 @@ impl Requests {
         }
     }
 
-    /// Small, composite and large moduli; samples all 0 and all m - 1 too.
+    /// Chosen moduli; samples all 0 and all m - 1 too.
     fn moduli(&mut self) {
-        let mut roots = vec![(3, 2, 1), (15, 14, 1), (5, 2, 2), (5, 3, 2)];
-        roots.extend([LARGEST, LARGEST - 2].map(|m| (m, m - 1, 1)));
-        let searched = [(25, 2), (65, 2), (1649, 4), (4369, 4), (289, 4), (257, 8)];
-        roots.extend(searched.map(|(m, n)| searched_root(m, n)));
-        roots.extend((2..=5).map(power_and_one));
-        roots.extend((2..=6).map(near_largest));
-        for (m, x, n) in roots {
+        for (m, x, n) in chosen() {
             let table = powers(m, x, n);
             for schedule in 1..=5 {
                 let words = self.words(schedule, (m, x, n));

@@ -1,24 +1,33 @@
-//! Calls in fixed point for a test program, each with the line that is due.
+//! Calls in fixed point, right and damaged.
 
-use crate::fixed::{fixed_accept, fixed_fill, fixed_reverse, fixed_transform};
-use crate::inputs::{number, positions, Records};
+use crate::calls::{parts, words, Call, Function, Function::*};
+use crate::fixed::fixed_accept;
+use crate::inputs::*;
 use crate::random::Random;
 use crate::tables::*;
 
 /// One call and all that is lent to it.
-#[derive(Clone, Debug, Default, PartialEq)]
-pub struct Call {
-    pub call: u32,
-    pub schedule: u32,
-    pub buf: Vec<i32>,
-    pub table: Vec<i32>,
-    pub scratch: Vec<i32>,
+#[derive(Clone, Default)]
+struct Scan {
+    function: Function,
+    schedule: u32,
+    buf: Vec<i32>,
+    table: Vec<i32>,
+    scratch: Vec<i32>,
 }
 
-const ACCEPT: u32 = 1;
-const TRANSFORM: u32 = 2;
-const REVERSE: u32 = 3;
-const FILL: u32 = 4;
+impl From<Scan> for Call {
+    fn from(scan: Scan) -> Call {
+        Call {
+            function: scan.function,
+            schedule: scan.schedule,
+            buf: words(&scan.buf),
+            table: words(&scan.table),
+            scratch: words(&scan.scratch),
+            ..Call::default()
+        }
+    }
+}
 
 const MIN: i32 = i32::MIN;
 const MAX: i32 = i32::MAX;
@@ -26,63 +35,15 @@ const MAX: i32 = i32::MAX;
 /// The largest sample part.
 const FULL: i32 = 32767;
 
-/// 2v when v is at least 0, -2v - 1 otherwise.
-pub fn folded(v: i32) -> u32 {
-    let v = i64::from(v);
-    (if v >= 0 { 2 * v } else { -2 * v - 1 }) as u32
-}
-
-impl Call {
-    /// The record: call, schedule, three lengths, then what is lent.
-    pub fn bytes(&self) -> Vec<u8> {
-        let lent = [&self.buf, &self.table, &self.scratch];
-        let lengths = lent.map(|part| part.len() as u32);
-        let head = [self.call, self.schedule].into_iter().chain(lengths);
-        let rest = lent.into_iter().flatten().map(|&v| folded(v));
-        head.chain(rest).flat_map(number).collect()
-    }
-
-    /// Number and place, then what may have been written.
-    pub fn line(&self) -> String {
-        let mut lent = self.clone();
-        let answer = match self.call {
-            ACCEPT => fixed_accept(&self.table),
-            TRANSFORM => {
-                let scratch = &mut lent.scratch;
-                fixed_transform(self.schedule, &mut lent.buf, &self.table, scratch)
-            }
-            REVERSE => fixed_reverse(&mut lent.buf),
-            _ => fixed_fill(&mut lent.table),
-        };
-        let shown = match self.call {
-            ACCEPT => Vec::new(),
-            FILL => lent.table,
-            _ => [lent.buf, lent.scratch].concat(),
-        };
-        let mut words = vec![answer.number.to_string(), answer.place.to_string()];
-        words.extend(shown.iter().map(|&v| folded(v).to_string()));
-        words.join(" ") + "\n"
-    }
-}
-
-/// The records of all calls in fixed point, and the lines that they print.
-pub fn records() -> Records {
-    let mut records = Records::default();
-    for call in all() {
-        records.add(&call.bytes(), &call.line());
-    }
-    records
-}
-
 struct Scans {
     calls: Vec<Call>,
     random: Random,
 }
 
-pub fn all() -> Vec<Call> {
+pub fn all(random: Random) -> Vec<Call> {
     let mut scans = Scans {
         calls: Vec::new(),
-        random: Random::new(0x5ca25),
+        random,
     };
     scans.lengths();
     scans.extremes();
@@ -93,8 +54,8 @@ pub fn all() -> Vec<Call> {
     scans.refused_lengths_of_the_rest();
     scans.refused_samples();
     scans.several_faults();
-    scans.reversals();
-    scans.fillings();
+    scans.any_tables();
+    scans.reversals_and_fillings();
     scans.calls
 }
 
@@ -148,37 +109,38 @@ fn distinct(count: usize) -> Vec<i32> {
 }
 
 impl Scans {
-    /// Each call stands once.
-    fn add(&mut self, call: Call) {
-        if !self.calls.contains(&call) {
-            self.calls.push(call);
-        }
+    fn add(&mut self, scan: Scan) {
+        self.calls.push(scan.into());
     }
 
-    /// Numbers of one byte, and of one digit when printed.
+    fn any(&mut self, count: usize) -> Vec<i32> {
+        parts(&self.random.words(count))
+    }
+
+    /// Small numbers.
     fn garbage(&mut self, count: usize) -> Vec<i32> {
         let number = |_| self.random.below(10) as i32 - 5;
         (0..count).map(number).collect()
     }
 
-    /// A transform with garbage in the scratch, which is of the right length
-    /// for schedule 2 and of a short one otherwise.
-    fn transform(&mut self, schedule: u32, buf: &[i32], table: &[i32]) -> Call {
+    /// A transform with any numbers in the scratch, which is of the right
+    /// length for schedule 2 and of any otherwise.
+    fn transform(&mut self, schedule: u32, buf: &[i32], table: &[i32]) -> Scan {
         let length = match schedule {
             2 => buf.len(),
-            _ => self.random.below(6) as usize,
+            _ => self.random.place(2 * buf.len() + 1),
         };
-        Call {
-            call: TRANSFORM,
+        Scan {
+            function: FixedTransform,
             schedule,
             buf: buf.to_vec(),
             table: table.to_vec(),
-            scratch: self.garbage(length),
+            scratch: self.any(length),
         }
     }
 
     /// A transform of a random scan with our own table.
-    fn right(&mut self, schedule: u32, n: usize) -> Call {
+    fn right(&mut self, schedule: u32, n: usize) -> Scan {
         let buf = self.random.parts(2 << n);
         self.transform(schedule, &buf, &sines(n))
     }
@@ -186,48 +148,48 @@ impl Scans {
     /// The same scan by all three schedules.
     fn by_all(&mut self, buf: &[i32], table: &[i32]) {
         for schedule in 1..=3 {
-            let call = self.transform(schedule, buf, table);
-            self.add(call);
+            let scan = self.transform(schedule, buf, table);
+            self.add(scan);
         }
     }
 
     fn accept(&mut self, table: &[i32]) {
-        self.add(Call {
-            call: ACCEPT,
+        self.add(Scan {
+            function: FixedAccept,
             table: table.to_vec(),
-            ..Call::default()
+            ..Scan::default()
         });
     }
 
     /// Every length by all three schedules.
     fn lengths(&mut self) {
         for n in 1..=12 {
-            for _ in 0..if n < 7 { 3 } else { 1 } {
+            for _ in 0..if n < 7 { 100 } else { 30 } {
                 let buf = self.random.parts(2 << n);
                 self.by_all(&buf, &sines(n));
             }
         }
         // "Elsewhere it is neither tested nor touched."
         for (schedule, length) in [(1, 0), (1, 15), (1, 16), (3, 0), (3, 16), (3, 17)] {
-            let call = self.right(schedule, 3);
+            let scan = self.right(schedule, 3);
             let scratch = distinct(length);
-            self.add(Call { scratch, ..call });
+            self.add(Scan { scratch, ..scan });
         }
-        let call = self.right(2, 3);
+        let scan = self.right(2, 3);
         let scratch = distinct(16);
-        self.add(Call { scratch, ..call });
+        self.add(Scan { scratch, ..scan });
     }
 
     fn extremes(&mut self) {
-        for n in [1, 2, 3, 5, 6] {
+        for n in 1..=12 {
             let mut scans = extreme_scans(n);
             scans.extend((0..8.min(1 << n)).map(|j| resonant_scan(n, j)));
             for (buf, schedule) in scans.iter().zip([1, 2, 3].into_iter().cycle()) {
                 if n < 4 {
                     self.by_all(buf, &sines(n));
                 } else {
-                    let call = self.transform(schedule, buf, &sines(n));
-                    self.add(call);
+                    let scan = self.transform(schedule, buf, &sines(n));
+                    self.add(scan);
                 }
             }
         }
@@ -239,8 +201,8 @@ impl Scans {
         for n in 1..=12 {
             self.accept(&sines(n));
         }
-        let longer = [sines(12), vec![0; 4096]].concat();
-        for length in [0, 1, 3, 5, 6, 7, 12, 8192] {
+        let longer = [sines(12), vec![0; 16384]].concat();
+        for length in lengths() {
             self.accept(&longer[..length]);
         }
     }
@@ -262,8 +224,8 @@ impl Scans {
             let n = table.len().ilog2() as usize;
             let schedule = 1 + self.random.below(3);
             let buf = resonant_scan(n, self.random.below(1 << n) as usize);
-            let call = self.transform(schedule, &buf, &table);
-            self.add(call);
+            let scan = self.transform(schedule, &buf, &table);
+            self.add(scan);
         }
     }
 
@@ -283,8 +245,8 @@ impl Scans {
             self.accept(&table);
             let schedule = 1 + self.random.below(3);
             let buf = self.garbage(2 * table.len());
-            let call = self.transform(schedule, &buf, &table);
-            self.add(call);
+            let scan = self.transform(schedule, &buf, &table);
+            self.add(scan);
         }
         for index in positions(0, 1024) {
             self.accept(&with_part_moved(sines(10), index, -40));
@@ -296,9 +258,9 @@ impl Scans {
     fn refused_schedules_and_lengths(&mut self) {
         for schedule in [0, 4, 5, 6, 8, 257, 65538, 1 << 31, u32::MAX] {
             for n in [1, 3] {
-                let call = self.right(schedule, n);
+                let scan = self.right(schedule, n);
                 let scratch = self.garbage(2 << n);
-                self.add(Call { scratch, ..call });
+                self.add(Scan { scratch, ..scan });
             }
         }
         for length in [0, 1, 2, 3, 5, 6, 7, 9, 10, 12, 15, 17, 24, 8193, 8200] {
@@ -306,8 +268,8 @@ impl Scans {
                 let buf = self.garbage(length);
                 let mut table = sines(12);
                 table.truncate(if length < 8000 { length / 2 } else { 2 });
-                let call = self.transform(schedule, &buf, &table);
-                self.add(call);
+                let scan = self.transform(schedule, &buf, &table);
+                self.add(scan);
             }
         }
     }
@@ -317,22 +279,22 @@ impl Scans {
         for n in 1..=4 {
             let length = 2 << n;
             for wrong in [0, 1, length / 2, length - 1, length + 1, 2 * length] {
-                let call = self.right(2, n);
+                let scan = self.right(2, n);
                 let scratch = self.garbage(wrong);
-                self.add(Call { scratch, ..call });
+                self.add(Scan { scratch, ..scan });
             }
             let longer = [sines(n), sines(n), sines(n)].concat();
             let points = length / 2;
             for wrong in [0, 1, points / 2, points - 1, points + 1, 2 * points] {
                 for schedule in 1..=3 {
-                    let call = self.right(schedule, n);
+                    let scan = self.right(schedule, n);
                     let table = longer[..wrong].to_vec();
-                    self.add(Call { table, ..call });
+                    self.add(Scan { table, ..scan });
                 }
             }
-            let call = self.right(1 + n as u32 % 3, n);
+            let scan = self.right(1 + n as u32 % 3, n);
             let table = sines(n + 1);
-            self.add(Call { table, ..call });
+            self.add(Scan { table, ..scan });
         }
     }
 
@@ -344,77 +306,87 @@ impl Scans {
             for (round, index) in (0..).zip(indices) {
                 let beyond = [FULL + 1, -FULL - 1, MAX, MIN];
                 for value in &beyond[..if n < 6 { 4 } else { 1 }] {
-                    let mut call = self.right(1 + round % 3, n);
-                    call.buf[index] = *value;
-                    self.add(call.clone());
-                    call.buf[2 * (1 << n) - 1] = -FULL - 1;
-                    self.add(call);
+                    let mut scan = self.right(1 + round % 3, n);
+                    scan.buf[index] = *value;
+                    self.add(scan.clone());
+                    scan.buf[2 * (1 << n) - 1] = -FULL - 1;
+                    self.add(scan);
                 }
             }
         }
     }
 
+    /// Brings in the faults of a set, any of 5, 4, 3, 6, 1 and 7.
+    fn damage(&mut self, scan: &mut Scan, set: u32) {
+        let random = &mut self.random;
+        if set & 1 != 0 {
+            let place = random.place(scan.buf.len());
+            scan.buf[place] = random.one_of(&[FULL + 1, -FULL - 1, MAX, MIN]);
+        }
+        if set & 2 != 0 {
+            let place = random.place(scan.table.len());
+            scan.table[place] = random.one_of(&[-1, -40, 16383, 23172, MAX, MIN]);
+        }
+        if set & 4 != 0 {
+            scan.table.resize(wrong_length(scan.table.len(), random), 0);
+        }
+        if set & 8 != 0 {
+            scan.scratch.resize(wrong_length(scan.buf.len(), random), 9);
+        }
+        if set & 16 != 0 {
+            scan.buf.resize(random.one_of(&lengths()), -9);
+        }
+        if set & 32 != 0 {
+            scan.schedule = random.one_of(&[0, 4, 5, 6, 257, 1 << 31, u32::MAX]);
+        }
+    }
+
     /// Any of six faults together, so that their order shows.
     fn several_faults(&mut self) {
-        let sets = (0..64_u32).map(|set| (2, set));
-        let without_schedule = (0..32_u32).flat_map(|set| [(1, set), (3, set)]);
-        for (schedule, set) in sets.chain(without_schedule) {
-            let mut call = self.right(schedule, 2);
-            if set & 1 != 0 {
-                call.buf[3] = FULL + 1;
+        for (set, n) in (0..64).flat_map(|set| (1..=12).map(move |n| (set, n))) {
+            for schedule in 1..=3 {
+                let mut scan = self.right(schedule, n);
+                self.damage(&mut scan, set);
+                self.add(scan);
             }
-            if set & 2 != 0 {
-                call.table[3] = -1;
-            }
-            if set & 4 != 0 {
-                call.table.push(0);
-            }
-            if set & 8 != 0 {
-                call.scratch.push(9);
-            }
-            if set & 16 != 0 {
-                call.buf.truncate(6);
-            }
-            if set & 32 != 0 {
-                call.schedule = [0, 4, 5, u32::MAX][set as usize % 4];
-            }
-            self.add(call);
         }
     }
 
-    fn reverse(&mut self, buf: Vec<i32>) {
-        let call = REVERSE;
-        self.add(Call {
-            call,
-            buf,
-            ..Call::default()
-        });
-    }
-
-    fn reversals(&mut self) {
-        let right = (1..=12).map(|n| 2 << n);
-        for length in right.chain([0, 1, 2, 3, 5, 6, 7, 10, 12, 24]) {
-            self.reverse(distinct(length));
-        }
-        for n in 1..=5 {
-            self.reverse((0..1 << n).flat_map(|i| [MIN + i, MAX - i]).collect());
-        }
-        let longer = self.garbage(8200);
-        self.reverse(longer);
-    }
-
-    fn fillings(&mut self) {
-        let right = (1..=12).map(|n| 1 << n);
-        for length in right.chain([0, 1, 3, 5, 6, 7, 12, 4097, 8192]) {
-            let table = match length {
-                ..100 => distinct(length),
-                _ => self.garbage(length),
+    /// Tables with a few parts a little or anyhow off, at every length.
+    fn any_tables(&mut self) {
+        for (n, round) in (1..=12).flat_map(|n| (0..150).map(move |round| (n, round))) {
+            let random = &mut self.random;
+            let mut table = match round % 3 {
+                0 => moved(n, random),
+                _ => sines(n),
             };
-            let call = FILL;
-            self.add(Call {
-                call,
-                table,
-                ..Call::default()
+            let index = random.place(table.len());
+            table[index] = match round % 4 {
+                0 => random.words(1)[0] as i32,
+                _ => table[index] + random.below(7) as i32 - 3,
+            };
+            self.accept(&table);
+            let buf = self.random.parts(2 * table.len());
+            let scan = self.transform(1 + round % 3, &buf, &table);
+            self.add(scan);
+        }
+    }
+
+    /// Numbers that are all different, the ends of the range, and any.
+    fn reversals_and_fillings(&mut self) {
+        let mut lent: Vec<Vec<i32>> = lengths().into_iter().map(distinct).collect();
+        lent.extend((1..=5).map(|n| (0..1 << n).flat_map(|i| [MIN + i, MAX - i]).collect()));
+        lent.extend(lengths_often().into_iter().map(|length| self.any(length)));
+        for numbers in lent {
+            self.add(Scan {
+                function: FixedReverse,
+                buf: numbers.clone(),
+                ..Scan::default()
+            });
+            self.add(Scan {
+                function: FixedFill,
+                table: numbers,
+                ..Scan::default()
             });
         }
     }

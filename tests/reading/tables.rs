@@ -131,7 +131,7 @@ pub fn drifting(n: usize) -> Table {
 
 /// Our own table with all parts behind the first pair moved, by at most two
 /// units.
-fn moved(n: usize, random: &mut Random) -> Table {
+pub fn moved(n: usize, random: &mut Random) -> Table {
     let reach = 1 + random.below(2);
     let mut table = sines(n);
     for part in &mut table[2..] {

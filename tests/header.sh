@@ -1,0 +1,15 @@
+#!/bin/sh
+# The header stands alone, in C and in C++; its examples, each as it is written there, and document 01's bench values hold through the calls.
+cd "$(dirname "$0")/.." || exit 2
+made=$(mktemp -d) || exit 2
+trap 'rm -rf "$made"' EXIT
+. tests/meter/build.sh
+if command -v g++ >/dev/null; then
+    g++ -Wall -Wextra -Werror -fsyntax-only -x c++ include/fandrute.h || exit 1
+fi
+sed -n '/^#ifndef/,$ s/^ \*     \([^/]*;\).*/\1/p' include/fandrute.h >"$made/examples"
+while read -r line; do
+    grep -qF "$line" tests/meter/values.c || { echo "tests/meter/values.c lacks the header's example: $line"; exit 1; }
+done <"$made/examples"
+compile "$made/values" tests/meter/values.c || exit 1
+$emulator "$made/values"
