@@ -2,7 +2,7 @@
 // when it is at least 0, and as -2v - 1 otherwise. The calls are 1 accept, 2 transform, 3 reverse, 4 fill; the line has what stands in
 // the buffer then, and behind it in the filled table or else the scratch, in the same coding.
 use answer::Answer;
-use request::Many;
+use reading::Many;
 ghost use mathlib.Core.Path.{_≡_};
 ghost use Prim.Native.Nat.{_+_, _≤_};
 ghost use lib.ListN.{length};
@@ -10,7 +10,7 @@ ghost use lib.ListN.{length};
 // A record of which the call was read; answers the place behind it, or 0 where it is not whole.
 pub fn scanned(held: &[u8], call: u32, p: usize) -> usize {
     let mut head = [0u32; 4];
-    match request::numbers(held, p, &mut head) {
+    match reading::numbers(held, p, &mut head) {
         Many::Broken(place) => 0,
         Many::All(q) => {
             let b = size(head[1]);
@@ -137,7 +137,7 @@ fn read_words(held: &[u8], p: usize, words: &mut [u32], part: &mut [i32]) -> usi
     requires { ⌜ length (now part) ≤ length (now words) ⌝ }
 {
     let n = part.len();
-    match request::numbers(held, p, &mut words[..n]) {
+    match reading::numbers(held, p, &mut words[..n]) {
         Many::Broken(place) => 0,
         Many::All(q) => {
             decode(&words[..], part);

@@ -8,7 +8,7 @@ use Rattle.calls.proofs.fixed_calls.read_words.Tie as tie
 use Rattle.calls.proofs.fixed_calls.read_words.Reads as reads
 use Rattle.calls.proofs.fixed_calls.read_words.Lts as lts
 use Rattle.calls.proofs.fixed_calls.decode.Reads as decode-reads
-use Rattle.request.proofs.numbers.Reads as numbers-reads
+use Rattle.reading.proofs.numbers.Reads as numbers-reads
 
 slice-relend-prefix-numbers : tie.Need-slice-relend-prefix-numbers
 slice-relend-prefix-numbers c = search needs
