@@ -7,10 +7,10 @@ use native.Mathlib.Omega.{arith}
 use lib.ListN.{length, getD, set, take, drop, length-append, length-drop, take-append-drop}
 use lib.Seq.{set-split, length-take-le, take-take, take-append-le, drop-at, drop-length, drop-cons, length-sets, take-at}
 use Rattle.answer.specs.declared.Answer.{Answer}
-use Rattle.request.specs.Requests.{printed}
+use Rattle.reading.specs.Requests.{printed}
 use Rattle.request.specs.Outcomes.{RequestOutcome}
-use Rattle.request.specs.Theorems.{results-few}
-use Rattle.request.proofs.Steps.{sets-front}
+use Rattle.reading.specs.Theorems.{results-few}
+use Rattle.reading.proofs.Steps.{sets-front}
 use Rattle.line.specs.Lines.{decimal, spaced, line, decimal-one, decimal-more, decimal-few}
 use Rattle.line.specs.Outcomes.{Stands}
 

@@ -5,7 +5,7 @@ use mathlib.Core.List.{List, [], _∷_, _++_}
 use native.Mathlib.Omega.{arith}
 use lib.ListN.{length, length-append}
 use Rattle.groups.specs.Bases.{in-base, base-one, base-more, base-every, base-enough}
-use Rattle.request.specs.Requests.{Printed}
+use Rattle.reading.specs.Requests.{Printed}
 
 -- v in decimal, of at most k digits and one.
 abbrev pub digits : ℕ → ℕ → List ℕ

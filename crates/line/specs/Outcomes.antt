@@ -4,7 +4,7 @@ use mathlib.Core.Path.{_≡_, sym, _∙_}
 use mathlib.Core.List.{List, _++_}
 use native.Mathlib.Omega.{arith}
 use lib.ListN.{length, take, drop}
-use Rattle.request.specs.Requests.{printed}
+use Rattle.reading.specs.Requests.{printed}
 use Rattle.line.specs.Lines.{line}
 
 -- The text stands in front of place p, from place q on; nothing else is touched.

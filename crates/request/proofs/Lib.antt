@@ -1,3 +1,2 @@
--- Laws that serve the proofs of the request.
-pub mod Filling
-pub mod Steps
+-- Laws that serve proofs of code.
+pub mod Giving

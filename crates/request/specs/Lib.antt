@@ -1,4 +1,2 @@
--- What `dft` is asked and answers.
-pub mod Requests
+-- The outcome of a request.
 pub mod Outcomes
-pub mod Theorems

@@ -6,7 +6,7 @@ use mathlib.Core.List.{List}
 use lib.ListN.{length}
 use lib.Seq.{sets}
 use Rattle.answer.specs.declared.Answer.{Answer}
-use Rattle.request.specs.Requests.{Printed, printed}
+use Rattle.reading.specs.Requests.{Printed, printed}
 
 -- What is to be printed is answered, and its results stand at the buffer's start. A refusal has none, so it changes nothing.
 pub record Given (what : Printed) (results : List ℕ) (answer : Answer) (count : ℕ) (results′ : List ℕ) : Type 0 where

@@ -2,13 +2,13 @@
 use borrow.Author.Needs.{needs}
 use native.Mathlib.Omega.{arith}
 use mathlib.Core.Path.{sym, ap, _∙_}
-use Rattle.request.proofs.Steps.{answered, samples-broken, samples-surplus, samples-transformed}
-use Rattle.request.proofs.answering.with_table.Statement.{statement}
-use Rattle.request.proofs.answering.with_table.Tie as tie
-use Rattle.request.proofs.answering.with_table.Reads as reads
-use Rattle.request.proofs.answering.with_table.Lts as lts
+use Rattle.reading.proofs.Steps.{answered, samples-broken, samples-surplus, samples-transformed}
+use Rattle.reading.proofs.with_table.Statement.{statement}
+use Rattle.reading.proofs.with_table.Tie as tie
+use Rattle.reading.proofs.with_table.Reads as reads
+use Rattle.reading.proofs.with_table.Lts as lts
 use Rattle.modular.proofs.transform.Reads as transform-reads
-use Rattle.request.proofs.reading.numbers.Reads as numbers-reads
+use Rattle.reading.proofs.numbers.Reads as numbers-reads
 
 numbers-requires : tie.Need-numbers-requires
 numbers-requires c κs = search needs

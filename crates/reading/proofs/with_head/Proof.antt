@@ -2,13 +2,13 @@
 use borrow.Author.Needs.{needs}
 use native.Mathlib.Omega.{arith}
 use mathlib.Core.Path.{sym, ap, _∙_}
-use Rattle.request.proofs.Steps.{answered, table-broken, table-whole}
-use Rattle.request.proofs.answering.with_head.Statement.{statement}
-use Rattle.request.proofs.answering.with_head.Tie as tie
-use Rattle.request.proofs.answering.with_head.Reads as reads
-use Rattle.request.proofs.answering.with_head.Lts as lts
-use Rattle.request.proofs.answering.with_table.Reads as with-table-reads
-use Rattle.request.proofs.reading.numbers.Reads as numbers-reads
+use Rattle.reading.proofs.Steps.{answered, table-broken, table-whole}
+use Rattle.reading.proofs.with_head.Statement.{statement}
+use Rattle.reading.proofs.with_head.Tie as tie
+use Rattle.reading.proofs.with_head.Reads as reads
+use Rattle.reading.proofs.with_head.Lts as lts
+use Rattle.reading.proofs.with_table.Reads as with-table-reads
+use Rattle.reading.proofs.numbers.Reads as numbers-reads
 
 numbers-requires : tie.Need-numbers-requires
 numbers-requires c κs = search needs

@@ -1,7 +1,7 @@
--- The steps of a request, by what was read.
+-- The steps of reading a request, by what was read.
 use Prim.Native.Nat.{ℕ, _/_, _<_, _≤_}
-use mathlib.Core.Path.{_≡_, refl, sym, _∙_}
-use mathlib.Core.Bool.{true, false}
+use mathlib.Core.Path.{_≡_, _∙_, sym}
+use mathlib.Core.Bool.{true}
 use mathlib.Core.List.{List, [], _++_, append-nil}
 use native.Mathlib.Nat.{zero-add}
 use native.Mathlib.Omega.{arith}
@@ -9,21 +9,15 @@ use lib.ListN.{length, drop}
 use lib.Seq.{sets, sets-eq, drop-length}
 use borrow.Author.Tests.{le-leb, lt-leb}
 use Rattle.answer.specs.declared.Answer.{Answer}
-use Rattle.answer.specs.Choice.{refuse, refuse-at, done-left, refused-left}
-use Rattle.answer.specs.Lists.{at}
+use Rattle.answer.specs.Choice.{refuse-at, done-left}
 use Rattle.modular_judgement.specs.Verdicts.{offers, permitted-length, transform-verdict}
 use Rattle.modular.specs.Outcomes.{TransformOutcome}
-use Rattle.request.specs.declared.reading.Many.the-variants.{All, Broken}
-use Rattle.request.specs.Requests.{Printed, many-at, values-at, refused, judged, with-both, with-table, with-head, asked, printed}
-use Rattle.request.specs.Outcomes.{Given}
-use Rattle.request.specs.Theorems.{values-whole, head-every, both-judged}
+use Rattle.reading.specs.declared.Many.the-variants.{All, Broken}
+use Rattle.reading.specs.Requests.{Printed, many-at, values-at, refused, judged, with-both, with-table, with-head}
+use Rattle.reading.specs.Theorems.{values-whole, both-judged}
 
 abbrev pub answered : Printed → Answer
 answered r = r .answer
-
--- A refusal has no results.
-pub given-refused : {r : Printed} {answer : Answer} {l : List ℕ} → r ≡ refused answer → Given r l answer 0 l
-given-refused e = rw e (record { answers = refl; counts = refl; leaves = refl })
 
 -- ---- several numbers
 
@@ -80,44 +74,3 @@ module _ (s : List ℕ) (m schedule p : ℕ) (table samples : List ℕ) (half : 
   table-whole {samples′ = samples′} {answer} many e out =
       let is = e ∙ sets-whole table (values-at (length table) s p) (values-whole (length table) s p _ many) in
       rw (rw half at many) (rw (is, half) at out)
-
--- ---- refusals have no results
-
-empty-head : (s : List ℕ) (m schedule N p : ℕ) → (with-head s m schedule N p .answer .number ≡ 0 → ⊥) → with-head s m schedule N p .results ≡ []
-empty-head s m schedule N p =
-    head-every (λ r. (r .answer .number ≡ 0 → ⊥) → r .results ≡ []) (λ a l z. refl)
-    s m schedule N p (λ table samples long half z. refused-left (judged m table samples) _ [] z)
-
--- ---- the whole request
-
-module _ (s : List ℕ) (m schedule N p : ℕ) where
-  pub not-offered : offers schedule ≡ false → asked s m schedule N p ≡ refused (refuse 7)
-  unfolding asked
-  not-offered e = rw e
-
-  module _ (e : offers schedule ≡ true) where
-    pub not-permitted : permitted-length N ≡ false → asked s m schedule N p ≡ refused (refuse 1)
-    unfolding asked
-    not-permitted h = simp (e, h)
-
-    permitted : permitted-length N ≡ true → asked s m schedule N p ≡ with-head s m schedule N p
-    unfolding asked
-    permitted h = simp (e, h)
-
-    module _ (h : permitted-length N ≡ true) {answer : Answer} (judgement : answer ≡ with-head s m schedule N p .answer) where
-      pub given-none : {l : List ℕ} → (answer .number ≡ 0 → ⊥) → Given (asked s m schedule N p) l answer 0 l
-      given-none z =
-          let none = empty-head s m schedule N p (rw judgement at z) in
-          rw (permitted h) (record { answers = judgement; counts = rw none; leaves = rw none })
-
-      pub given-results : {vs l l′ : List ℕ} → vs ≡ with-head s m schedule N p .results → length vs ≡ N → l′ ≡ sets l 0 vs → Given (asked s m schedule N p) l answer N l′
-      given-results is long left = rw (permitted h) (record { answers = judgement; counts = rw (← is) (sym long); leaves = rw (← is) left })
-
-module _ (s : List ℕ) where
-  pub head-broken : {place : ℕ} → many-at 3 s 0 ≡ Broken place → printed s ≡ refused (refuse-at 10 place)
-  unfolding printed
-  head-broken e = rw e
-
-  pub head-whole : {p : ℕ} → many-at 3 s 0 ≡ All p → (head l : List ℕ) → length head ≡ 3 → l ≡ sets head 0 (values-at 3 s 0) → printed s ≡ asked s (at l 0) (at l 1) (at l 2) p
-  unfolding printed
-  head-whole e head l long read = rw (e, read, sets-whole head _ (values-whole 3 s 0 _ e ∙ sym long))

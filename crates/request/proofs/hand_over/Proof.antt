@@ -3,11 +3,11 @@ use borrow.Author.Needs.{needs}
 use lib.ListN.{take}
 use mathlib.Core.Path.{sym, _∙_}
 use lib.Seq.{length-take-le}
-use Rattle.request.proofs.Steps.{sets-front}
-use Rattle.request.proofs.answering.hand_over.Statement.{statement}
-use Rattle.request.proofs.answering.hand_over.Tie as tie
-use Rattle.request.proofs.answering.hand_over.Reads as reads
-use Rattle.request.proofs.answering.hand_over.Lts as lts
+use Rattle.reading.proofs.Steps.{sets-front}
+use Rattle.request.proofs.hand_over.Statement.{statement}
+use Rattle.request.proofs.hand_over.Tie as tie
+use Rattle.request.proofs.hand_over.Reads as reads
+use Rattle.request.proofs.hand_over.Lts as lts
 use Rattle.shuffles.proofs.copy.Reads as copy-reads
 
 slice-aggregate-copy : tie.Need-slice-aggregate-copy

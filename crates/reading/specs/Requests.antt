@@ -14,8 +14,8 @@ use Rattle.residues.specs.Moduli.{permits}
 use Rattle.residues.specs.Judgement.{bad-entry, bad-sample}
 use Rattle.modular_judgement.specs.Verdicts.{offers, permitted-length}
 use Rattle.modular.specs.Outcomes.{transformed}
-use Rattle.request.specs.declared.reading.Many.{Many}
-use Rattle.request.specs.declared.reading.Many.the-variants.{All, Broken}
+use Rattle.reading.specs.declared.Many.{Many}
+use Rattle.reading.specs.declared.Many.the-variants.{All, Broken}
 
 -- ---- several numbers
 

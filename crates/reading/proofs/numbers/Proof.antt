@@ -4,11 +4,11 @@ use native.Mathlib.Omega.{arith}
 use mathlib.Core.Path.{sym, _∙_}
 use Prim.Native.Nat.{_-_}
 use lib.ListN.{length}
-use Rattle.request.proofs.Filling.{Filling, filling-none, filling-all, filled-all, filling-more, filling-broken, filled-broken}
-use Rattle.request.proofs.reading.numbers.Statement.{statement}
-use Rattle.request.proofs.reading.numbers.Tie as tie
-use Rattle.request.proofs.reading.numbers.Reads as reads
-use Rattle.request.proofs.reading.numbers.Lts as lts
+use Rattle.reading.proofs.Filling.{Filling, filling-none, filling-all, filled-all, filling-more, filling-broken, filled-broken}
+use Rattle.reading.proofs.numbers.Statement.{statement}
+use Rattle.reading.proofs.numbers.Tie as tie
+use Rattle.reading.proofs.numbers.Reads as reads
+use Rattle.reading.proofs.numbers.Lts as lts
 use Rattle.groups.proofs.number_at.Reads as number-at-reads
 
 abbrev Inv-loop : tie.InvT-loop

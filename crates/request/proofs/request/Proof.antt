@@ -2,14 +2,14 @@
 use borrow.Author.Needs.{needs}
 use mathlib.Core.List.{[], _∷_}
 use mathlib.Core.Path.{refl, sym, _∙_}
-use Rattle.request.proofs.Steps.{given-refused, head-broken, head-whole}
-use Rattle.request.proofs.answering.request.Statement.{statement}
-use Rattle.request.proofs.answering.request.Tie as tie
-use Rattle.request.proofs.answering.request.Reads as reads
-use Rattle.request.proofs.answering.request.Lts as lts
-use Rattle.request.proofs.answering.asked.Reads as asked-reads
-use Rattle.request.proofs.answering.size.Reads as size-reads
-use Rattle.request.proofs.reading.numbers.Reads as numbers-reads
+use Rattle.request.proofs.Giving.{given-refused, head-broken, head-whole}
+use Rattle.request.proofs.request.Statement.{statement}
+use Rattle.request.proofs.request.Tie as tie
+use Rattle.request.proofs.request.Reads as reads
+use Rattle.request.proofs.request.Lts as lts
+use Rattle.request.proofs.asked.Reads as asked-reads
+use Rattle.request.proofs.size.Reads as size-reads
+use Rattle.reading.proofs.numbers.Reads as numbers-reads
 
 slice-aggregate-numbers : tie.Need-slice-aggregate-numbers
 slice-aggregate-numbers c = search needs

@@ -1,20 +1,40 @@
-// The whole request.
-use crate::reading::Many;
-use crate::reading::numbers;
+// A request as it is read: several numbers, one behind the other; the table, the samples, and their transform.
 use answer::Answer;
+use groups::Number;
 ghost use mathlib.Core.Path.{_≡_};
 ghost use mathlib.Core.Bool.{true};
 ghost use Prim.Native.Nat.{_/_, _≤_};
 ghost use lib.ListN.{length, take};
 ghost use lib.Seq.{sets};
 ghost use Rattle.modular_judgement.specs.Verdicts.{offers, permitted-length};
-ghost use Rattle.request.specs.Requests.{with-table, with-head, asked};
-ghost use Rattle.request.specs.Outcomes.{Given, RequestOutcome};
+ghost use Rattle.reading.specs.Requests.{many-at, values-at, with-table, with-head};
 
-// What a request is answered: number and place, and how many results there are.
-pub struct Reply {
-    pub answer: Answer,
-    pub count: usize,
+// The place behind the last of several numbers, or the place of the first fault.
+pub enum Many {
+    All(usize),
+    Broken(usize),
+}
+
+// Fills out with the numbers of s from place p on.
+pub fn numbers(s: &[u8], p: usize, out: &mut [u32]) -> Many
+    ensures { λ r. ⌜ r ≡ many-at (length (now (out .entry))) (now (s .entry)) p ⌝ }
+    ensures { λ r. ⌜ now (out .exit) ≡ sets (now (out .entry)) 0 (values-at (length (now (out .entry))) (now (s .entry)) p) ⌝ }
+{
+    let mut next = p;
+    let mut i = 0;
+    while i < out.len() {
+        match groups::number_at(s, next) {
+            Number::Value(v, q) => {
+                out[i] = v;
+                next = q;
+                i += 1;
+            }
+            Number::Fault(place) => {
+                return Many::Broken(place);
+            }
+        }
+    }
+    Many::All(next)
 }
 
 // Reads the samples from place q on, sees that nothing is behind them, and transforms them.
@@ -69,7 +89,7 @@ fn with_head(
 }
 
 // The same with memory for the longest request, of which n numbers are used.
-fn within(
+pub fn within(
     s: &[u8],
     m: u32,
     schedule: u32,
@@ -93,78 +113,4 @@ fn within(
         &mut samples[..n],
         &mut scratch[..n],
     )
-}
-
-// Zeros, behind contracts that say only how many: memory for a table, and for samples or results.
-fn half_space() -> [u32; 2048]
-    ensures { λ r. ⌜ 2048 ≡ length r ⌝ }
-{
-    [0; 2048]
-}
-
-pub fn space() -> [u32; 4096]
-    ensures { λ r. ⌜ 4096 ≡ length r ⌝ }
-{
-    [0; 4096]
-}
-
-// Puts the first n samples at the start of the results.
-fn hand_over(samples: &[u32], n: usize, results: &mut [u32])
-    requires { ⌜ (n ≤ length (now samples)) × (n ≤ length (now results)) ⌝ }
-    ensures { λ _. ⌜ now (results .exit) ≡ sets (now (results .entry)) 0 (take n (now (samples .entry))) ⌝ }
-{
-    shuffles::copy(&samples[..n], &mut results[..n]);
-}
-
-fn size(n: u32) -> usize
-    ensures { λ r. ⌜ r ≡ n ⌝ }
-{
-    n as usize
-}
-
-// The request of the three numbers at its head, and what stands from place p on.
-fn asked(s: &[u8], m: u32, schedule: u32, n: usize, p: usize, results: &mut [u32; 4096]) -> Reply
-    ensures { λ r. ⌜ Given (asked (now (s .entry)) m schedule n p) (now (results .entry)) (r .answer) (r .count) (now (results .exit)) ⌝ }
-{
-    if !modular_judgement::offered(schedule) {
-        return Reply {
-            answer: answer::SCHEDULE,
-            count: 0,
-        };
-    }
-    if answer::log_of(n) == 0 {
-        return Reply {
-            answer: answer::LENGTH,
-            count: 0,
-        };
-    }
-    let mut table = half_space();
-    let mut samples = space();
-    let mut scratch = space();
-    let verdict = within(s, m, schedule, n, p, &mut table, &mut samples, &mut scratch);
-    if verdict.number != 0 {
-        return Reply {
-            answer: verdict,
-            count: 0,
-        };
-    }
-    hand_over(&samples, n, results);
-    Reply {
-        answer: verdict,
-        count: n,
-    }
-}
-
-// Answers the request. The results stand at the start of `results`; a refusal changes nothing there.
-pub fn request(input: &[u8], results: &mut [u32; 4096]) -> Reply
-    ensures { λ r. ⌜ RequestOutcome (now (input .entry)) (now (results .entry)) (r .answer) (r .count) (now (results .exit)) ⌝ }
-{
-    let mut head = [0u32; 3];
-    match numbers(input, 0, &mut head) {
-        Many::Broken(place) => Reply {
-            answer: Answer { number: 10, place },
-            count: 0,
-        },
-        Many::All(p) => asked(input, head[0], head[1], size(head[2]), p, results),
-    }
 }

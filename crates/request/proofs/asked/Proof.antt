@@ -5,17 +5,17 @@ use native.Mathlib.Omega.{arith}
 use borrow.Author.Tests.{ltb-true}
 use Rattle.answer.specs.Lengths.{log-of, permitted-range}
 use Rattle.modular_judgement.proofs.Tests.{passed, failed, long, short}
-use Rattle.request.proofs.Steps.{given-refused, not-offered, not-permitted, given-none, given-results}
-use Rattle.request.proofs.answering.asked.Statement.{statement}
-use Rattle.request.proofs.answering.asked.Tie as tie
-use Rattle.request.proofs.answering.asked.Reads as reads
-use Rattle.request.proofs.answering.asked.Lts as lts
+use Rattle.request.proofs.Giving.{given-refused, not-offered, not-permitted, given-none, given-results}
+use Rattle.request.proofs.asked.Statement.{statement}
+use Rattle.request.proofs.asked.Tie as tie
+use Rattle.request.proofs.asked.Reads as reads
+use Rattle.request.proofs.asked.Lts as lts
 use Rattle.answer.proofs.log_of.Reads as log-of-reads
 use Rattle.modular_judgement.proofs.offered.Reads as offered-reads
-use Rattle.request.proofs.answering.half_space.Reads as half-space-reads
-use Rattle.request.proofs.answering.hand_over.Reads as hand-over-reads
-use Rattle.request.proofs.answering.space.Reads as space-reads
-use Rattle.request.proofs.answering.within.Reads as within-reads
+use Rattle.request.proofs.half_space.Reads as half-space-reads
+use Rattle.request.proofs.hand_over.Reads as hand-over-reads
+use Rattle.request.proofs.space.Reads as space-reads
+use Rattle.reading.proofs.within.Reads as within-reads
 
 offered-requires : tie.Need-offered-requires
 offered-requires c κs = search needs

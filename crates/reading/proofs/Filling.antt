@@ -9,8 +9,8 @@ use lib.ListN.{length, set, length-set}
 use lib.Seq.{sets}
 use Rattle.groups.specs.declared.Number.the-variants.{Value, Fault}
 use Rattle.groups.specs.Groups.{number-at}
-use Rattle.request.specs.declared.reading.Many.the-variants.{All, Broken}
-use Rattle.request.specs.Requests.{behind, many-at, and-behind, values-at}
+use Rattle.reading.specs.declared.Many.the-variants.{All, Broken}
+use Rattle.reading.specs.Requests.{behind, many-at, and-behind, values-at}
 
 -- Of the numbers that fill out₀ from its start, those that stand from place next of s on are left to be put into out from i on.
 pub record Filling (s : List ℕ) (p : ℕ) (out₀ out : List ℕ) (next i : ℕ) : Type 0 where

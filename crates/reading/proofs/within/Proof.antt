@@ -3,11 +3,11 @@ use borrow.Author.Needs.{needs}
 use mathlib.Core.Path.{sym, _∙_}
 use Prim.Native.Nat.{_/_}
 use lib.Seq.{length-take-le, take-at}
-use Rattle.request.proofs.answering.within.Statement.{statement}
-use Rattle.request.proofs.answering.within.Tie as tie
-use Rattle.request.proofs.answering.within.Reads as reads
-use Rattle.request.proofs.answering.within.Lts as lts
-use Rattle.request.proofs.answering.with_head.Reads as with-head-reads
+use Rattle.reading.proofs.within.Statement.{statement}
+use Rattle.reading.proofs.within.Tie as tie
+use Rattle.reading.proofs.within.Reads as reads
+use Rattle.reading.proofs.within.Lts as lts
+use Rattle.reading.proofs.with_head.Reads as with-head-reads
 
 slice-relend-prefix-with-head : tie.Need-slice-relend-prefix-with-head
 slice-relend-prefix-with-head c = search needs

@@ -20,9 +20,9 @@ use Rattle.groups.specs.Theorems.{clash, number-begun, number-near}
 use Rattle.modular_judgement.specs.Verdicts.{offers, permitted-length, through-scratch, scratch-fits, lent-verdict, rest-verdict, transform-verdict}
 use Rattle.modular_work.specs.Works.{cleared}
 use Rattle.modular.specs.Outcomes.{transformed, TransformOutcome}
-use Rattle.request.specs.declared.reading.Many.{Many}
-use Rattle.request.specs.declared.reading.Many.the-variants.{All, Broken}
-use Rattle.request.specs.Requests.{behind, many-at, and-behind, values-at, Printed, refused, refused-unless, follow, judged, with-both, with-table, with-head, asked, printed}
+use Rattle.reading.specs.declared.Many.{Many}
+use Rattle.reading.specs.declared.Many.the-variants.{All, Broken}
+use Rattle.reading.specs.Requests.{behind, many-at, and-behind, values-at, Printed, refused, refused-unless, follow, judged, with-both, with-table, with-head, asked, printed}
 
 -- ---- several numbers
 
