@@ -1,0 +1,16 @@
+#!/bin/sh
+# The calls over residues beside FLINT and PARI, which know nothing of them: sums, inverse and acceptance, for moduli of every kind.
+#     sh tests/outside/modular.sh [SEED]
+cd "$(dirname "$0")/../.." || exit 2
+. tests/outside/ready.sh
+need g++ libflint-dev pari-gp
+build modular -lflint
+seed=${1:-1}
+echo "seed $seed"
+pari() { # FILE DEFINITION
+    { echo "$2"; cat "tests/outside/$1"; } >"$room/$1"
+    gp -q -f -s 64M --default parisizemax=1G "$room/$1" </dev/null
+}
+pari moduli.gp "SEED = $seed;" >"$room/cases" || exit 2
+"$room/modular" "$seed" "$room/made" <"$room/cases" || exit 1
+pari modular.gp "NAME = \"$room/made\";"
