@@ -5,7 +5,8 @@
 cd "$(dirname "$0")/../.." || exit 2
 . tests/outside/ready.sh
 need g++ libgmp-dev python3
-build distance -lgmpxx -lgmp
+calls
+build distance "$archive" -lgmpxx -lgmp
 seed=${1:-1} effort=${2:-2}
 echo "seed $seed, effort $effort"
 "$room/distance" "$seed" "$effort" "$room/made" || exit 1

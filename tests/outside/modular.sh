@@ -4,7 +4,8 @@
 cd "$(dirname "$0")/../.." || exit 2
 . tests/outside/ready.sh
 need g++ libflint-dev pari-gp
-build modular -lflint
+calls
+build modular "$archive" -lflint
 seed=${1:-1}
 echo "seed $seed"
 pari() { # FILE DEFINITION

@@ -5,7 +5,8 @@
 cd "$(dirname "$0")/../.." || exit 2
 . tests/outside/ready.sh
 need g++ libfftw3-dev
-build spectra -lfftw3
+calls
+build spectra "$archive" -lfftw3
 seed=${1:-1}
 echo "seed $seed"
 "$room/spectra" "$seed"
