@@ -6,7 +6,7 @@ archive=target/staticlib/libmeter.a
 need() { # PACKAGE..: installs the Debian packages that are missing
     dpkg -s "$@" >"$room/packages" 2>&1 && return
     echo "installing $*"
-    apt-get install -y -qq --no-install-recommends "$@" >"$room/packages" 2>&1 || { cat "$room/packages"; exit 2; }
+    { apt-get update -qq && apt-get install -y -qq --no-install-recommends "$@"; } >"$room/packages" 2>&1 || { cat "$room/packages"; exit 2; }
 }
 
 calls() { # the archive of the calls, if it is not there or a crate is newer
