@@ -13,5 +13,11 @@ pari() { # FILE DEFINITION
     gp -q -f -s 64M --default parisizemax=1G "$room/$1" </dev/null
 }
 pari moduli.gp "SEED = $seed;" >"$room/cases" || exit 2
+[ "$(tail -n 1 "$room/cases" | cut -d ' ' -f 1)" = 12 ] || { cat "$room/cases"; exit 2; }
 "$room/modular" "$seed" "$room/made" <"$room/cases" || exit 1
-pari modular.gp "NAME = \"$room/made\";"
+told=$(pari modular.gp "NAME = \"$room/made\";" 2>&1)
+echo "$told"
+case $told in
+'PARI '*'; 0 differences') ;;
+*) exit 1 ;; # gp ends with status 0 after an error of its own, too
+esac
