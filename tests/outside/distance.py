@@ -28,7 +28,7 @@ def coefficient(n, table, place, k):
     return factor
 
 
-def unrounded(n, rows, samples):
+def unrounded(rows, samples):
     """The result at each place; rows[place] are the coefficients."""
     result = []
     for row in rows:
@@ -65,10 +65,15 @@ def main():
         if known[0] != table:
             places = range(1 << n)
             known = table, [[coefficient(n, table, place, k) for k in places] for place in places]
-        whole = unrounded(n, known[1], samples)
+        whole = unrounded(known[1], samples)
         far = max(abs((r << 15 * n) - u) for point, unit in zip(result, whole) for r, u in zip(point, unit))
-        for what, bad in (("GMP's steps", whole != exact), ("the rounded result", rounded(n, table, samples) != result), ("the distance", far > bound[n])):
-            if bad:
+        tests = {
+            "GMP's steps": whole == exact,
+            "the rounded result": rounded(n, table, samples) == result,
+            "the distance": far <= bound[n],
+        }
+        for what, good in tests.items():
+            if not good:
                 wrong += 1
                 if wrong <= 20:
                     print(f"DIFFERENCE: {what}, N = {1 << n}, line {lines + 1}")

@@ -10,6 +10,8 @@
 
 constexpr unsigned LENGTHS = 12; // N = 2^n, n from 1
 
+using Numbers = std::vector<int32_t>; // in fixed point: points or pairs, interleaved
+
 // splitmix64
 struct Random {
     uint64_t state;

@@ -5,8 +5,6 @@
 #include <cmath>
 #include <fftw3.h>
 
-using Numbers = std::vector<int32_t>;
-
 struct Seen {
     double largest, squares, peak, first; // first: the sum of the differences of result 0
     size_t parts, scans;
@@ -25,7 +23,8 @@ static Numbers burst(unsigned n, Random &random) {
     size_t points = size_t(1) << n;
     std::vector<double> wave(points);
     for (int line = 0; line < 6; line++) {
-        double height = double(random.between(10, 100)), turns = double(random.between(0, points / 2)), width = double(points) / double(random.between(8, 64));
+        double height = double(random.between(10, 100)), turns = double(random.between(0, points / 2));
+        double width = double(points) / double(random.between(8, 64));
         for (size_t k = 0; k < points; k++) {
             double off = double(k) - double(points / 2);
             wave[k] += height * exp(-fabs(off) / width) * cos(2 * M_PI * turns * off / double(points));

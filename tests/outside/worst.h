@@ -13,7 +13,6 @@
 #include <cmath>
 #include <complex>
 
-using Numbers = std::vector<int32_t>;
 using Complex = std::complex<double>;
 
 struct Whole {
