@@ -2,10 +2,7 @@
 #     compile PROGRAM SOURCE    a C program with the header and the archive, to be started behind $emulator
 # The archive is for x86-64; elsewhere a compiler for it is fetched where there is none.
 . examples/kit.sh
-archive=target/staticlib/libmeter.a
-if [ ! -e "$archive" ] || [ -n "$(find crates crates.txt -newer "$archive")" ]; then
-    told=$(rt staticlib meter 2>&1) || { echo "$told"; exit 1; }
-fi
+archive meter
 case $(uname -m) in
 x86_64) compiler=cc ;;
 *)
@@ -20,5 +17,5 @@ x86_64) compiler=cc ;;
     ;;
 esac
 compile() {
-    $compiler -std=c11 -O2 -Wall -Wextra -Werror -Iinclude -o "$1" "$2" "$archive"
+    $compiler -std=c11 -O2 -Wall -Wextra -Werror -Iinclude -o "$1" "$2" target/staticlib/libmeter.a
 }
