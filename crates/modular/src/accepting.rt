@@ -14,7 +14,7 @@ pub fn accept(m: u32, table: &[u32]) -> Answer
     if answer::table_log(table.len()) == 0 {
         return answer::TABLE_LENGTH;
     }
-    let entry = residues::judge_table(table, Modulus { value: m });
+    let entry = residue_tables::judge_table(table, Modulus { value: m });
     if let Found::At(place) = entry {
         return Answer { number: 4, place };
     }

@@ -18,11 +18,11 @@ fn judge_lent(buf: &[u32], m: u32, table: &[u32]) -> Answer
         return answer::TABLE_LENGTH;
     }
     let modulus = Modulus { value: m };
-    let entry = residues::judge_table(table, modulus);
+    let entry = residue_tables::judge_table(table, modulus);
     if let Found::At(place) = entry {
         return Answer { number: 4, place };
     }
-    let sample = residues::judge_samples(buf, modulus);
+    let sample = residue_tables::judge_samples(buf, modulus);
     if let Found::At(place) = sample {
         return Answer { number: 5, place };
     }

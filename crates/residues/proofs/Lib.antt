@@ -1,3 +1,2 @@
 -- Laws that serve proofs of code.
 pub mod Arithmetic
-pub mod Rules

@@ -1,14 +1,12 @@
-// Residues modulo m and exponents of the root: the arithmetic, the lookup, and the judgement of tables and samples.
-use answer::Found;
+// Residues modulo m and exponents of the root: the arithmetic and the lookup.
 ghost use mathlib.Core.Path.{_≡_};
-ghost use Prim.Native.Nat.{_+_, _-_, _≤_, _<_};
-ghost use lib.Dec.{eqb};
+ghost use Prim.Native.Nat.{_+_, _<_};
 ghost use lib.ListN.{length};
 ghost use Rattle.answer.specs.Lists.{at};
 ghost use Rattle.fourier.specs.Numbers.{plus-mod, minus-mod, times-mod};
-ghost use Rattle.fourier.specs.Table.{root, lookup};
+ghost use Rattle.fourier.specs.Table.{lookup};
 ghost use Rattle.residues.specs.Moduli.{permits, Permitted};
-ghost use Rattle.residues.specs.Judgement.{Below, bad-entry, bad-sample};
+ghost use Rattle.residues.specs.Judgement.{Below};
 
 // A value modulo m.
 #[repr(C)]
@@ -72,7 +70,7 @@ pub fn times(a: Residue, b: Residue, m: Modulus) -> Residue
 }
 
 // The product modulo m of any two numbers, one reduction.
-fn product(a: u32, b: u32, m: Modulus) -> u32
+pub fn product(a: u32, b: u32, m: Modulus) -> u32
     requires { ⌜ Permitted (m .value) ⌝ }
     ensures { λ r. ⌜ r ≡ times-mod (m .value) a b ⌝ }
 {
@@ -92,67 +90,4 @@ pub fn lookup(table: &[u32], e: Exponent, m: Modulus) -> Residue
     }
     let entry = table[place - table.len()];
     minus(Residue(0), Residue(entry), m)
-}
-
-// The root of a table: "its second entry, or m - 1 when N = 2".
-fn root_of(table: &[u32], m: Modulus) -> u32
-    requires { ⌜ Permitted (m .value) ⌝ }
-    requires { ⌜ 1 ≤ length (now table) ⌝ }
-    ensures { λ r. ⌜ r ≡ root (m .value) (length (now (table .entry))) (at (now (table .entry))) ⌝ }
-{
-    if table.len() == 1 {
-        m.value - 1
-    } else {
-        table[1]
-    }
-}
-
-// The closing rule, "the last entry times x is m - 1", of that product.
-fn closes(wanted: u32, m: Modulus) -> bool
-    requires { ⌜ Permitted (m .value) ⌝ }
-    ensures { λ r. ⌜ r ≡ eqb wanted (m .value - 1) ⌝ }
-{
-    wanted == m.value - 1
-}
-
-// Refusal 4: the first place at which a rule of the table fails, or the accepted mark.
-pub fn judge_table(table: &[u32], m: Modulus) -> Found
-    requires { ⌜ Permitted (m .value) ⌝ }
-    requires { ⌜ 1 ≤ length (now table) ⌝ }
-    ensures { λ r. ⌜ r ≡ bad-entry (m .value) (now (table .entry)) ⌝ }
-{
-    let x = root_of(table, m);
-    let mut wanted: u32 = 1;
-    let mut place = 0;
-    loop {
-        if place == table.len() {
-            if closes(wanted, m) {
-                break Found::Nowhere;
-            } else {
-                break Found::At(table.len());
-            }
-        }
-        let entry = table[place];
-        if entry != wanted {
-            break Found::At(place);
-        }
-        wanted = product(entry, x, m);
-        place += 1;
-    }
-}
-
-// Refusal 5: the first place of a sample at or above m, or the accepted mark.
-pub fn judge_samples(buf: &[u32], m: Modulus) -> Found
-    ensures { λ r. ⌜ r ≡ bad-sample (m .value) (now (buf .entry)) ⌝ }
-{
-    let mut index = 0;
-    loop {
-        if index == buf.len() {
-            break Found::Nowhere;
-        }
-        if m.value <= buf[index] {
-            break Found::At(index);
-        }
-        index += 1;
-    }
 }

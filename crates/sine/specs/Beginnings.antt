@@ -16,7 +16,6 @@ use Rattle.answer.specs.declared.Found.the-variants.{At, Nowhere}
 use Rattle.answer.specs.declared.Answer.{Answer}
 use Rattle.fourier.specs.Sizes.{two-halves}
 use Rattle.points.specs.Interleaved.{point}
-use Rattle.points.specs.declared.Point.{Point}
 use Rattle.tables.specs.Rules.{bad-pair}
 use Rattle.tables.specs.Acceptance.{AcceptOutcome, fixed-accept-verdict}
 use Rattle.tables.specs.Closing.{beginning-fails}

@@ -7,8 +7,8 @@ use Rattle.modular_judgement.proofs.judge_lent.Statement.{statement}
 use Rattle.modular_judgement.proofs.judge_lent.Tie as tie
 use Rattle.modular_judgement.proofs.judge_lent.Reads as reads
 use Rattle.modular_judgement.proofs.judge_lent.Lts as lts
-use Rattle.residues.proofs.judge_samples.Reads as judge-samples-reads
-use Rattle.residues.proofs.judge_table.Reads as judge-table-reads
+use Rattle.residue_tables.proofs.judge_samples.Reads as judge-samples-reads
+use Rattle.residue_tables.proofs.judge_table.Reads as judge-table-reads
 
 returns : tie.Need-returns
 unfolding lent-verdict

@@ -14,7 +14,7 @@ use Rattle.modular.proofs.accepting.accept.Tie as tie
 use Rattle.modular.proofs.accepting.accept.Reads as reads
 use Rattle.modular.proofs.accepting.accept.Lts as lts
 use Rattle.answer.proofs.table_log.Reads as table-log-reads
-use Rattle.residues.proofs.judge_table.Reads as judge-table-reads
+use Rattle.residue_tables.proofs.judge_table.Reads as judge-table-reads
 use Rattle.residues.proofs.permitted.Reads as permitted-reads
 
 -- What the tests that were passed tell.

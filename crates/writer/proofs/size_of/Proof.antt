@@ -4,12 +4,12 @@ use native.Mathlib.Omega.{arith}
 use mathlib.Core.Path.{_≡_, ap}
 use Prim.Native.Nat.{_+_, _<_}
 use lib.ListN.{length}
 use Rattle.groups.specs.Groups.{bytes-of}
 use Rattle.groups.specs.Theorems.{bytes-few, bytes-one, bytes-more}
-use Rattle.groups.proofs.size_of.Statement.{statement}
-use Rattle.groups.proofs.size_of.Tie as tie
-use Rattle.groups.proofs.size_of.Reads as reads
-use Rattle.groups.proofs.size_of.Lts as lts
+use Rattle.writer.proofs.size_of.Statement.{statement}
+use Rattle.writer.proofs.size_of.Tie as tie
+use Rattle.writer.proofs.size_of.Reads as reads
+use Rattle.writer.proofs.size_of.Lts as lts
 
 abbrev Inv-loop : tie.InvT-loop
 Inv-loop v rest₀ size₀ rest size = (length (bytes-of v) + 1 ≡ size + length (bytes-of rest)) × (rest < 4294967296)

@@ -6,9 +6,9 @@ use lib.ListN.{length}
 use borrow.Author.Tests.{lt-ltb, le-ltb}
 use borrow.Author.Needs.{needs}
 use Rattle.answer.specs.Search.{Passed, passed-none, passed-more, first-passed, first-failed}
 use Rattle.residues.specs.Judgement.{below}
-use Rattle.residues.proofs.judge_samples.Statement.{statement}
-use Rattle.residues.proofs.judge_samples.Tie as tie
+use Rattle.residue_tables.proofs.judge_samples.Statement.{statement}
+use Rattle.residue_tables.proofs.judge_samples.Tie as tie
 
 abbrev Inv-loop : tie.InvT-loop
 Inv-loop buf m index₀ index = (index ≤ length buf) × Passed (below (m .value) buf) index

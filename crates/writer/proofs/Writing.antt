@@ -7,10 +7,10 @@ use native.Mathlib.Omega.{arith}
 use lib.ListN.{length, set, length-set}
 use lib.Seq.{sets}
 use borrow.Author.Tests.{le-leb, lt-leb}
-use Rattle.groups.specs.declared.Put.the-variants.{Behind, NoRoom}
+use Rattle.writer.specs.declared.Put.the-variants.{Behind, NoRoom}
 use Rattle.groups.specs.Groups.{bytes-of}
-use Rattle.groups.specs.Outcomes.{PutOutcome}
+use Rattle.writer.specs.Outcomes.{PutOutcome}
 use Rattle.groups.specs.Theorems.{bytes-one, bytes-more, bytes-few}
 
 -- Of v, written from p on into out₀, the groups of rest are left to be written from q on into out.
 pub record Writing (v p : ℕ) (out₀ out : List ℕ) (rest q : ℕ) : Type 0 where

@@ -6,9 +6,9 @@ use mathlib.Core.List.{List}
 use lib.ListN.{length}
 use lib.Seq.{sets}
 use lib.Dec.{leb}
 use Rattle.groups.specs.Groups.{bytes-of}
-use Rattle.groups.specs.declared.Put.{Put}
-use Rattle.groups.specs.declared.Put.the-variants.{Behind, NoRoom}
+use Rattle.writer.specs.declared.Put.{Put}
+use Rattle.writer.specs.declared.Put.the-variants.{Behind, NoRoom}
 
 -- There is room for all of v from place p on.
 abbrev pub room : ℕ → ℕ → List ℕ → Bool

@@ -2,8 +2,8 @@
 use borrow.Author.Needs.{needs}
 use borrow.Author.Tests.{eq-eqb, ne-eqb}
 use Rattle.fourier.specs.Table.{root}
-use Rattle.residues.proofs.root_of.Statement.{statement}
-use Rattle.residues.proofs.root_of.Tie as tie
+use Rattle.residue_tables.proofs.root_of.Statement.{statement}
+use Rattle.residue_tables.proofs.root_of.Tie as tie
 
 sub-result : tie.Need-sub-result
 sub-result c = search needs

@@ -3,12 +3,12 @@ use borrow.Author.Needs.{needs}
 use native.Mathlib.Omega.{arith}
 use mathlib.Core.Path.{refl}
 use lib.ListN.{length-set}
-use Rattle.groups.proofs.Writing.{Writing, put-none, inside, write-more, write-last}
-use Rattle.groups.proofs.put_number.Statement.{statement}
-use Rattle.groups.proofs.put_number.Tie as tie
-use Rattle.groups.proofs.put_number.Reads as reads
-use Rattle.groups.proofs.put_number.Lts as lts
-use Rattle.groups.proofs.size_of.Reads as size-of-reads
+use Rattle.writer.proofs.Writing.{Writing, put-none, inside, write-more, write-last}
+use Rattle.writer.proofs.put_number.Statement.{statement}
+use Rattle.writer.proofs.put_number.Tie as tie
+use Rattle.writer.proofs.put_number.Reads as reads
+use Rattle.writer.proofs.put_number.Lts as lts
+use Rattle.writer.proofs.size_of.Reads as size-of-reads
 
 abbrev Inv-loop : tie.InvT-loop
 Inv-loop out₀ p v size rest₀ q₀ out rest q = Writing v p out₀ out rest q

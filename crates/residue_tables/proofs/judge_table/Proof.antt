@@ -8,9 +8,9 @@ use borrow.Author.Tests.{ne-eqb}
 use Rattle.answer.specs.Lists.{at}
 use Rattle.answer.specs.declared.Found.the-variants.{At}
 use Rattle.fourier.specs.Table.{root}
-use Rattle.residues.proofs.Rules.{Reached, reached-none, reached-more, entry-rule, closing-rule, refused, accepted}
-use Rattle.residues.proofs.judge_table.Statement.{statement}
-use Rattle.residues.proofs.judge_table.Tie as tie
+use Rattle.residue_tables.proofs.Rules.{Reached, reached-none, reached-more, entry-rule, closing-rule, refused, accepted}
+use Rattle.residue_tables.proofs.judge_table.Statement.{statement}
+use Rattle.residue_tables.proofs.judge_table.Tie as tie
 
 abbrev Inv-loop : tie.InvT-loop
 Inv-loop table m x wanted₀ place₀ wanted place =
