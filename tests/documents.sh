@@ -1,6 +1,13 @@
 #!/bin/sh
 # docs/THEOREMS.md: each name in a row's second column stands in a file of its third, and each file there has one of the names.
+# docs/CONTRACTS.md: the must-fail edits that it names are those that there are.
 cd "$(dirname "$0")/.." || exit 2
+made=$(mktemp -d) || exit 2
+trap 'rm -rf "$made"' EXIT
+ls crates/*/must-fail/*.edit | sed 's,crates/\(.*\)/must-fail/\(.*\)\.edit,\1/\2,' | sort >"$made/there"
+sed -n '/^## Wrong programs/,/^## Kernel/ s/^|[^|]*|\([^|]*\)|[^|]*|$/\1/p' docs/CONTRACTS.md | tr '`' '\n' |
+    awk '/^[a-z0-9_]+\/[a-z0-9-]+$/ { split($0, part, "/"); print; next } /^[a-z0-9-]+$/ && part[1] { print part[1] "/" $0 }' | sort -u >"$made/named"
+diff "$made/named" "$made/there" || { echo "docs/CONTRACTS.md (<) and the edits (>) differ"; exit 1; }
 awk -F'|' '
     function fault(words) { print "docs/THEOREMS.md:" NR ": " words; bad = 1 }
     NF == 5 && $4 ~ /`/ {
