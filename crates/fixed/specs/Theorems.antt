@@ -24,7 +24,7 @@ use Rattle.points.specs.Rounding.{half-up, half-up-half}
 use Rattle.points.specs.Steps.{rounded, unrounded, Sized}
 use Rattle.points.specs.Distance.{Near, results-near}
 use Rattle.points.specs.Growth.{results-sized}
-use Rattle.tables.specs.Rules.{rule, bad-pair}
+use Rattle.tables.specs.Rules.{rule, Accepted, bad-pair}
 use Rattle.sine.specs.Sine.{sine-table, sine-table-length}
 use Rattle.sine.specs.Filling.{FillOutcome, sine-table-done, filled}
 use Rattle.sine.specs.Beginnings.{beginning-bad, beginning-length}
@@ -129,10 +129,22 @@ module _ {schedule : ℕ} {buf table scratch buf′ scratch′ : List ℤ} where
       at-failed (ranged buf) (length buf) p
       (judged-here 5 (bad-sample buf) done p (λ z. omega arith) (judged-past 4 (bad-pair table) _ (λ z. omega arith) (transform-past outcome (omega arith) (omega arith))))
 
--- ---- our own tables
+-- ---- nothing else is refused
 
 length-permitted : (n : ℕ) → 1 ≤ n → n ≤ 12 → {l : ℕ} → l ≡ 2 ^ n + 2 ^ n → permitted-length l ≡ true
 length-permitted n some few e = rw (e, power-points n some few) (lt-ltb 0 n some)
+
+-- With an accepted table whatever lies in the range is transformed.
+pub transform-done : (n : ℕ) → 1 ≤ n → n ≤ 12 → {schedule : ℕ} {buf table scratch buf′ scratch′ : List ℤ} {answer : Answer} →
+    offers schedule ≡ true → length buf ≡ 2 ^ n + 2 ^ n → scratch-fits schedule (length scratch) (length buf) ≡ true →
+    length table ≡ 2 ^ n → Accepted (length table / 2) (point table) → Passed (ranged buf) (length buf) →
+    TransformOutcome schedule buf table scratch answer buf′ scratch′ → answer ≡ done
+unfolding transform-verdict
+transform-done n some few {schedule} {buf} {table} {scratch} offer long fits size accepted samples outcome =
+    let half : length table ≡ length buf / 2 = omega arith in
+    outcome .answers ∙ rw (offer, length-permitted n some few long, fits, eq-eqb (length table) (length buf / 2) half, first-passed accepted, first-passed samples)
+
+-- ---- our own tables
 
 -- With a table that was filled the transform is never refused 4.
 pub transform-filled : {schedule p : ℕ} {before buf table scratch buf′ scratch′ : List ℤ} {a : Answer} → FillOutcome before a table → a .number ≡ 0 →
@@ -140,13 +152,11 @@ pub transform-filled : {schedule p : ℕ} {before buf table scratch buf′ scrat
 transform-filled {p = p} fill passed outcome = let first = transform-pair outcome in false≢true (sym (first .fails) ∙ filled fill passed .accepted .each p (first .within))
 
 -- With our own table whatever lies in the range is transformed.
-pub transform-done : (n : ℕ) → 1 ≤ n → n ≤ 12 → {schedule : ℕ} {buf scratch buf′ scratch′ : List ℤ} {answer : Answer} →
+pub transform-own : (n : ℕ) → 1 ≤ n → n ≤ 12 → {schedule : ℕ} {buf scratch buf′ scratch′ : List ℤ} {answer : Answer} →
     offers schedule ≡ true → length buf ≡ 2 ^ n + 2 ^ n → scratch-fits schedule (length scratch) (length buf) ≡ true → Passed (ranged buf) (length buf) →
     TransformOutcome schedule buf (sine-table n) scratch answer buf′ scratch′ → answer ≡ done
-unfolding transform-verdict
-transform-done n some few {schedule} {buf} {scratch} offer long fits samples outcome =
-    let size : length (sine-table n) ≡ length buf / 2 = omega (arith, sine-table-length n some) in
-    outcome .answers ∙ rw (offer, length-permitted n some few long, fits, eq-eqb (length (sine-table n)) (length buf / 2) size, first-passed (sine-table-done n some few .accepted), first-passed samples)
+transform-own n some few offer long fits samples outcome =
+    transform-done n some few offer long fits (sine-table-length n some) (sine-table-done n some few .accepted) samples outcome
 
 -- A longer table of our own whose beginning is taken for the table for N', N' at least 4: whatever the data, 4 at place N'/2.
 pub transform-beginning : (n n′ : ℕ) → 2 ≤ n′ → n′ < n → n ≤ 12 → {schedule : ℕ} {buf scratch buf′ scratch′ : List ℤ} {answer : Answer} →

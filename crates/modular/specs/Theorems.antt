@@ -6,7 +6,7 @@ use mathlib.Core.Logic.{⊎-elim}
 use mathlib.Core.List.{List}
 use native.Mathlib.Nat.{mod-lt}
 use native.Mathlib.Omega.{arith}
-use borrow.Author.Tests.{ltb-true}
+use borrow.Author.Tests.{ltb-true, eq-eqb}
 use lib.ListN.{length}
 use lib.Seq.{ext-getD}
 use lib.Dec.{ltb, eqb}
@@ -44,6 +44,15 @@ accepted-accept m table permitted long accepted = rw (permitted-permits m permit
 
 pub accepted-root : (m : ℕ) (table : List ℕ) → 0 < m → Accepted m (length table) (at table) → root m (length table) (at table) ^ length table % m ≡ m - 1
 accepted-root m table pos accepted = root-power m (length table) pos (at table) accepted
+
+-- With an accepted table, and samples below a permitted modulus, nothing is refused.
+pub transform-done : {schedule m : ℕ} {buf table scratch buf′ scratch′ : List ℕ} {answer : Answer} →
+    offers schedule ≡ true → permitted-length (length buf) ≡ true → Permitted m → scratch-fits schedule (length scratch) (length buf) ≡ true →
+    length table ≡ length buf / 2 → Accepted m (length table) (at table) → Below m buf →
+    TransformOutcome schedule buf m table scratch answer buf′ scratch′ → answer ≡ done
+unfolding transform-verdict rest-verdict lent-verdict
+transform-done {m = m} {buf = buf} {table = table} offer long permitted fits half accepted below outcome =
+    outcome .answers ∙ rw (offer, long, permitted-permits m permitted, fits, eq-eqb (length table) (length buf / 2) half, first-passed accepted, below-nowhere m buf below)
 
 -- ---- the transform leaves the Fourier sums, in the schedule's order
 

@@ -11,7 +11,7 @@ use lib.Dec.{leb, eqb}
 use borrow.Author.Tests.{ltb-true, lt-leb, eq-eqb}
 use Rattle.answer.specs.declared.Answer.{Answer}
 use Rattle.answer.specs.Choice.{refuse-at, done-left}
-use Rattle.answer.specs.Lists.{length-tabulate}
+use Rattle.answer.specs.Lists.{at, length-tabulate}
 use Rattle.answer.specs.Lengths.{log-of, permitted-range}
 use Rattle.groups.specs.declared.Number.{Number}
 use Rattle.groups.specs.declared.Number.the-variants.{Value, Fault}
@@ -56,7 +56,30 @@ unless-same : (b : Bool) (refusal : Answer) (x y : Printed) → (b ≡ true → 
 unless-same true refusal x y h = h refl
 unless-same false refusal x y h = refl
 
--- What holds of every refusal, and of what follows.
+-- ---- what a request asks for
+
+abbrev pub asked-modulus : List ℕ → ℕ
+asked-modulus s = at (values-at 3 s 0) 0
+
+abbrev pub asked-schedule : List ℕ → ℕ
+asked-schedule s = at (values-at 3 s 0) 1
+
+abbrev pub asked-size : List ℕ → ℕ
+asked-size s = at (values-at 3 s 0) 2
+
+-- The table stands at p, behind the three numbers, and the samples at q, behind the table.
+pub record Placed (s : List ℕ) (p q : ℕ) : Type 0 where
+  pub head : many-at 3 s 0 ≡ All p
+  pub table : many-at (asked-size s / 2) s p ≡ All q
+
+abbrev pub asked-table : List ℕ → ℕ → List ℕ
+asked-table s p = values-at (asked-size s / 2) s p
+
+abbrev pub asked-samples : List ℕ → ℕ → List ℕ
+asked-samples s q = values-at (asked-size s) s q
+
+-- ---- what holds of every refusal, and of what follows
+
 module _ (P : Printed → Type 0) (none : (answer : Answer) → 1 ≤ answer .number → P (refused answer)) where
   follow-every : (many : Many) (next : ℕ → Printed) → ((q : ℕ) → many ≡ All q → P (next q)) → P (follow many next)
   follow-every (All q) next h = h q refl
@@ -66,30 +89,36 @@ module _ (P : Printed → Type 0) (none : (answer : Answer) → 1 ≤ answer .nu
   unless-every true refusal next l h = h refl
   unless-every false refusal next l h = none refusal l
 
-  -- And of a table and samples of these lengths.
-  pub head-every : (s : List ℕ) (m schedule N p : ℕ) → ((table samples : List ℕ) → length samples ≡ N → length table ≡ N / 2 → P (with-both m schedule table samples)) → P (with-head s m schedule N p)
+  -- And of the table and the samples that stand there, of these lengths.
+  pub head-every : (s : List ℕ) (m schedule N p : ℕ) →
+      ((q : ℕ) → many-at (N / 2) s p ≡ All q → (let table = values-at (N / 2) s p in let samples = values-at N s q in
+      length samples ≡ N → length table ≡ N / 2 → P (with-both m schedule table samples))) → P (with-head s m schedule N p)
   unfolding with-head with-table
   head-every s m schedule N p h =
       follow-every (many-at (N / 2) s p) _
       (λ q e. follow-every (many-at N s q) _
       (λ end e′. unless-every (leb (length s) end) _ _ (omega arith)
-      (λ t. h (values-at (N / 2) s p) (values-at N s q) (values-whole N s q end e′) (values-whole (N / 2) s p q e))))
+      (λ t. h q e (values-whole N s q end e′) (values-whole (N / 2) s p q e))))
 
-  pub printed-every : ((m schedule : ℕ) (table samples : List ℕ) → offers schedule ≡ true → permitted-length (length samples) ≡ true → length table ≡ length samples / 2 → P (with-both m schedule table samples)) →
-      (s : List ℕ) → P (printed s)
+  pub printed-every : (s : List ℕ) →
+      ((p q : ℕ) → Placed s p q → (let table = asked-table s p in let samples = asked-samples s q in
+      offers (asked-schedule s) ≡ true → permitted-length (length samples) ≡ true → length table ≡ length samples / 2 → P (with-both (asked-modulus s) (asked-schedule s) table samples))) →
+      P (printed s)
   unfolding printed asked
-  printed-every h s =
+  printed-every s h =
       follow-every (many-at 3 s 0) _
       (λ p e. unless-every (offers _) _ _ (omega arith)
       (λ o. unless-every (permitted-length _) _ _ (omega arith)
-      (λ l. head-every s _ _ _ p (λ table samples long half. h _ _ table samples o (rw long l) (rw long half)))))
+      (λ l. head-every s _ _ _ p (λ q e′ long half. h p q (record { head = e; table = e′ }) o (rw long l) (rw long half)))))
 
 -- There are at most 4,096 results.
 pub results-few : (s : List ℕ) → length (printed s .results) ≤ 4096
-results-few =
-    printed-every (λ r. length (r .results) ≤ 4096) (λ a l. omega arith)
-    (λ m schedule table samples o l half. either (eqb (judged m table samples .number) 0) (transformed schedule samples m table)
-    (let range = permitted-range (length samples) (ltb-true 0 (log-of (length samples)) l) in rw length-tabulate (range .1)))
+results-few s =
+    printed-every (λ r. length (r .results) ≤ 4096) (λ a l. omega arith) s
+    (λ p q there o l half.
+    let samples = asked-samples s q in
+    let range = permitted-range (length samples) (ltb-true 0 (log-of (length samples)) l) in
+    either (eqb (judged (asked-modulus s) (asked-table s p) samples .number) 0) (transformed (asked-schedule s) samples (asked-modulus s) (asked-table s p)) (rw length-tabulate (range .1)))
   where
     either : (t : Bool) (l : List ℕ) → length l ≤ 4096 → length (cond t l []) ≤ 4096
     either true l h = h
@@ -112,25 +141,21 @@ unfolding transform-verdict rest-verdict lent-verdict judged
 both-judged m schedule table samples scratch offer long half room =
     simp (offer, long, room-fits schedule scratch (length samples) room, eq-eqb (length table) (length samples / 2) half)
 
--- Of some m, schedule, table and samples the transform answers 0 and leaves the results.
-pub record Transformed (r : Printed) : Type 0 where
-  pub m : ℕ
-  pub schedule : ℕ
-  pub table : List ℕ
-  pub samples : List ℕ
-  pub outcome : TransformOutcome schedule samples m table samples (r .answer) (r .results) (cleared schedule samples)
+-- Of the modulus, schedule, table and samples that the request asks for the transform answers 0 and leaves the results.
+pub record Transformed (s : List ℕ) (r : Printed) : Type 0 where
+  pub p : ℕ
+  pub q : ℕ
+  pub there : Placed s p q
+  pub outcome : TransformOutcome (asked-schedule s) (asked-samples s q) (asked-modulus s) (asked-table s p) (asked-samples s q) (r .answer) (r .results) (cleared (asked-schedule s) (asked-samples s q))
 
 -- So whatever is proved of transforms holds of it: its results are the Fourier sums of the samples (`transform-sums`).
-pub printed-transformed : (s : List ℕ) → printed s .answer .number ≡ 0 → Transformed (printed s)
-printed-transformed =
-    printed-every (λ r. r .answer .number ≡ 0 → Transformed r) (λ a l z. absurd (omega arith))
-    (λ m schedule table samples o l half z. record {
-      m = m;
-      schedule = schedule;
-      table = table;
-      samples = samples;
-      outcome = whole m schedule table samples (both-judged m schedule table samples (length samples) o l half refl) z;
-    })
+pub printed-transformed : (s : List ℕ) → printed s .answer .number ≡ 0 → Transformed s (printed s)
+printed-transformed s =
+    printed-every (λ r. r .answer .number ≡ 0 → Transformed s r) (λ a l z. absurd (omega arith)) s
+    (λ p q there o l half z.
+    let samples = asked-samples s q in
+    let verdict = both-judged (asked-modulus s) (asked-schedule s) (asked-table s p) samples (length samples) o l half refl in
+    record { p = p; q = q; there = there; outcome = whole (asked-modulus s) (asked-schedule s) (asked-table s p) samples verdict z })
   where
     whole : (m schedule : ℕ) (table samples : List ℕ) → transform-verdict schedule samples m table (length samples) ≡ judged m table samples → judged m table samples .number ≡ 0 →
         TransformOutcome schedule samples m table samples (judged m table samples) (with-both m schedule table samples .results) (cleared schedule samples)

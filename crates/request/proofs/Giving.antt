@@ -1,5 +1,5 @@
 -- What a request is given, by what was read.
-use Prim.Native.Nat.{ℕ}
+use Prim.Native.Nat.{ℕ, _/_}
 use mathlib.Core.Path.{_≡_, refl, sym, _∙_}
 use mathlib.Core.Bool.{true, false}
 use mathlib.Core.List.{List, []}
@@ -24,7 +24,7 @@ given-refused e = rw e (record { answers = refl; counts = refl; leaves = refl })
 empty-head : (s : List ℕ) (m schedule N p : ℕ) → (with-head s m schedule N p .answer .number ≡ 0 → ⊥) → with-head s m schedule N p .results ≡ []
 empty-head s m schedule N p =
     head-every (λ r. (r .answer .number ≡ 0 → ⊥) → r .results ≡ []) (λ a l z. refl)
-    s m schedule N p (λ table samples long half z. refused-left (judged m table samples) _ [] z)
+    s m schedule N p (λ q e long half z. refused-left (judged m (values-at (N / 2) s p) (values-at N s q)) _ [] z)
 
 -- ---- the whole request
 
