@@ -1,31 +1,33 @@
 /*
  * Fandrute: a Fourier transform that is proved down to the code.
  *
- * Every call looks at all that it is lent, each time, and answers a number and a place. The number is 0 when the call
+ * Every call tests, each time, all that counts for it, and answers a number and a place. The number is 0 when the call
  * is done; else it is the first refusal, in the order given with the call, whose condition holds:
  *
- *    1  the data are not N entries (2N in fixed point) for N = 2, 4, 8, .. 4,096
+ *    1  the data are not N entries (2N in fixed point) for a permitted N = 2^n, which is 2, 4, 8, .. 4,096
  *    2  the modulus is even, below 3, or above 2^31 - 1
- *    3  the table's length is not that of N (alone: not that of any permitted N)
+ *    3  the table's length is not that of N; in the calls that accept or fill, not that of any permitted N
  *    4  the table is not accepted; the place is the first entry or pair at which a rule fails, N/2 for the closing rule
- *    5  a sample is at or above the modulus, or a part is outside -32,767 .. 32,767; the place is its index
+ *    5  a sample is at or above the modulus, or a part is outside -32,767 .. 32,767; the place is the index in buf of the
+ *       first such number
  *    6  scratch is not as long as the data
  *    7  the call does not offer this schedule
  *    8  there is no such stage
  *    9  there is no such house row
  *
  * Where no place is named it is 0. A refusal changes nothing that was lent. Scratch counts for the schedules 2 and 5
- * alone: it must be as long as the data and is all zeros afterwards; with any other schedule it is not touched. A table
- * is never changed except by the two calls that fill one.
+ * alone: it must be as long as the data, and is all zeros after success; with any other schedule it is not touched. A
+ * table is never changed except by the two calls that fill one.
  *
  * What C cannot show, and the caller owes:
  *   - a pointer to entries is aligned and leads to as many entries as the length beside it says, all of them
  *     initialised; where the length is 0 it is still aligned and not null (any object of the type will do);
- *   - a buffer that a call writes (a pointer without const) overlaps no other buffer of the call, and nobody else reads
- *     or writes it meanwhile; buffers that are only read may overlap one another;
+ *   - a buffer that a call writes (a pointer without const) overlaps no other buffer of the call, and nobody else, no
+ *     interrupt and no other device, reads or writes it meanwhile;
+ *   - nobody writes a buffer that is only read (a pointer with const) while the call runs;
  *   - the caller is an x86-64 program under the System V calling convention, as the library's archive is.
- * Calls keep no state, so any number of threads may call at once, each with its own buffers. They take no memory but the
- * stack: fdr_fixed_fill some 17 KiB of it, every other call less than 3 KiB.
+ * Calls keep no state, so any number of threads may call at once, each with its own buffers; a table may be shared. They
+ * take no memory but the stack: fdr_fixed_fill some 17 KiB of it, every other call less than 3 KiB.
  *
  * In the examples below `answer` is an fdr_answer.
  */
@@ -60,7 +62,8 @@ typedef struct {
 /* ---- whole numbers modulo m ---- */
 
 /*
- * Whether the N/2 entries of the table are accepted modulo m: 1, x, x^2, .. with x^(N/2) = m - 1.
+ * Whether the N/2 entries of the table are accepted modulo m: 1, x, x^2, .. below m, with x^(N/2) = m - 1. The root x is
+ * the second entry, or m - 1 for N = 2.
  * Refusals, in order: 2, 3, 4.
  *
  *     uint32_t table[2] = {1, 4};
@@ -128,7 +131,9 @@ fdr_answer fdr_modular_fill(fdr_setting setting, uint32_t *table, size_t table_l
 /* ---- fixed point: pairs (real, imaginary), interleaved ---- */
 
 /*
- * Whether the N/2 pairs of the table, N numbers in units of 1/16,384, are accepted.
+ * Whether the N/2 pairs T[0], T[1], .. of the table, N numbers in units of 1/16,384, are accepted: T[0] is (16,384, 0);
+ * every imaginary part is at least 0, and the sizes of a pair's parts sum to at most 23,171; T[i-1] times T[1] differs from
+ * 16,384 T[i] by at most 32,768 in each part, where T[N/2] stands for (-16,384, 0).
  * Refusals, in order: 3, 4.
  *
  *     int32_t table[4] = {16384, 0, 0, 16385};
@@ -137,8 +142,10 @@ fdr_answer fdr_modular_fill(fdr_setting setting, uint32_t *table, size_t table_l
 fdr_answer fdr_fixed_accept(const int32_t *table, size_t table_len);
 
 /*
- * Transforms the N points in buf, 2N numbers, by schedule 1, 2 or 3: samples in order, the spectrum scaled by 1/N in
- * bit-reversed order. The three leave identical numbers.
+ * Transforms the N points in buf, 2N numbers, by schedule 1, 2 or 3. With the table that fdr_fixed_fill writes, place
+ * rev(j) then holds, rounded, 1/N times the sum over k of A(k) (cos + i sin)(2 pi j k / N): a plus in the exponent, and
+ * bit-reversed order. The three leave identical numbers. A part of a result may lie outside the range of samples: it is
+ * within 2^22.
  * Refusals, in order: 7, 1, 6, 3, 4, 5.
  *
  *     int32_t table[2] = {16384, 0}, buf[4] = {3, -1, 2, 0}, none;
@@ -157,7 +164,8 @@ fdr_answer fdr_fixed_transform(uint32_t schedule, int32_t *buf, size_t buf_len, 
 fdr_answer fdr_fixed_reverse(int32_t *buf, size_t buf_len);
 
 /*
- * Fills the table, N numbers, with the nearest whole numbers to 16,384 times cosine and sine for N points.
+ * Fills the table, N numbers, with pairs for N points: 16,384 times cosine and sine of 2 pi i / N, to the nearest whole
+ * number (this is tested; that the table is accepted is proved).
  * Refusals: 3.
  *
  *     int32_t table[1024] = {0};

@@ -1,5 +1,6 @@
 #!/bin/sh
-# docs/THEOREMS.md: each name in a row's second column stands in a file of its third, and each file there has one of the names.
+# docs/THEOREMS.md and docs/TRUST.md: each name in a row's second column stands in a file of its third, and each file there has one of the
+# names; README.md and docs/: a file that is linked is there.
 # docs/CONTRACTS.md: the must-fail edits that it names are those that there are.
 cd "$(dirname "$0")/.." || exit 2
 made=$(mktemp -d) || exit 2
@@ -9,8 +10,8 @@ sed -n '/^## Wrong programs/,/^## Kernel/ s/^|[^|]*|\([^|]*\)|[^|]*|$/\1/p' docs
     awk '/^[a-z0-9_]+\/[a-z0-9-]+$/ { split($0, part, "/"); print; next } /^[a-z0-9-]+$/ && part[1] { print part[1] "/" $0 }' | sort -u >"$made/named"
 diff "$made/named" "$made/there" || { echo "docs/CONTRACTS.md (<) and the edits (>) differ"; exit 1; }
 awk -F'|' '
-    function fault(words) { print "docs/THEOREMS.md:" NR ": " words; bad = 1 }
-    NF == 5 && $4 ~ /`/ {
+    function fault(words) { print FILENAME ":" FNR ": " words; bad = 1 }
+    $4 ~ /`[a-z_]*\/(specs|src)\// {
         files = split($4, file, "`")
         names = split($3, name, "`")
         split("", met)
@@ -35,5 +36,10 @@ awk -F'|' '
     }
     END {
         if (bad || !checked) exit 1
-        print checked " names of docs/THEOREMS.md stand where it says"
-    }' docs/THEOREMS.md
+        print checked " names stand where docs/THEOREMS.md and docs/TRUST.md say"
+    }' docs/THEOREMS.md docs/TRUST.md || exit 1
+for page in README.md docs/*.md; do
+    grep -o '](\([^)#:]*\)[)#]' "$page" | sed 's/^](//; s/[)#]$//' | while read -r link; do
+        [ -z "$link" ] || [ -e "$(dirname "$page")/$link" ] || { echo "$page: there is no $link"; exit 1; }
+    done || exit 1
+done

@@ -1,4 +1,4 @@
--- Document 01's bench values marked P, in one theorem about the definitions. They are about the steps before any reordering.
+-- Document 01's bench values marked P, in one theorem about the definitions.
 use Prim.Native.Nat.{ℕ, _^_}
 use mathlib.Core.Path.{_≡_, refl}
 use mathlib.Core.List.{List, [], _∷_}
