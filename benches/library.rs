@@ -42,11 +42,11 @@ extern "C" {
 }
 
 extern "C" {
-    pub fn others_sums_prepare(m: u32, n: u32, samples: *const u32);
-    pub fn others_ntl();
-    pub fn others_spectra_prepare(n: u32, samples: *const i32);
-    pub fn others_fftw();
-    pub fn others_kiss();
+    pub fn others_residues(n: u32, m: u32, samples: *const u32);
+    pub fn others_ntl(n: u32);
+    pub fn others_points(n: u32, samples: *const i32);
+    pub fn others_fftw(n: u32);
+    pub fn others_kiss(n: u32);
 }
 
 fn done(answer: Answer) {

@@ -1,7 +1,7 @@
 // Every schedule, modular and fixed, at 1,024 and 4,096 points, with its judgement and without it, against plain Rust of the same step,
 // and beside libraries that a user would pick instead. Ratios come from one run: the contenders take turns, and the smallest time of many
 // turns counts, which leaves the cold ones out. Prints two tables and exits with 1 where a bar is missed.
-//     speed [TURNS]
+//     speed [TURNS]    turns in each of the twenty rounds
 mod library;
 mod plain;
 
@@ -54,99 +54,134 @@ impl<'a, T: Copy + Default> Contender<'a, T> {
     }
 }
 
-// The smallest times of plain Rust, the kernel and the call, which must leave the same.
-fn race<T: Copy + Default + PartialEq>(turns: usize, samples: &[T], runs: [Run<T>; 3]) -> [f64; 3] {
-    let mut all = runs.map(|run| Contender::new(samples.len(), run));
-    for _ in 0..turns {
-        all.iter_mut().for_each(|c| c.turn(samples));
+// Plain Rust, the kernel and the call, on the same samples.
+struct Race<'a, T> {
+    kind: &'static str,
+    n: u32,
+    name: &'static str,
+    bars: (f64, f64),
+    samples: &'a [T],
+    contenders: [Contender<'a, T>; 3],
+}
+
+impl<'a, T: Copy + Default + PartialEq> Race<'a, T> {
+    fn new(kind: &'static str, n: u32, name: &'static str, bars: (f64, f64), samples: &'a [T], runs: [Run<'a, T>; 3]) -> Self {
+        Race { kind, n, name, bars, samples, contenders: runs.map(|run| Contender::new(samples.len(), run)) }
     }
-    assert!(all[0].buf == all[1].buf && all[0].buf == all[2].buf, "the results differ");
-    all.map(|c| c.smallest)
+
+    fn turns(&mut self, turns: usize) {
+        for _ in 0..turns {
+            self.contenders.iter_mut().for_each(|c| c.turn(self.samples));
+        }
+    }
+
+    // A row of the first table; whether the results are the same and both bars are held.
+    fn row(&self) -> bool {
+        let [plain, kernel, call] = &self.contenders;
+        assert!(plain.buf == kernel.buf && plain.buf == call.buf, "{} {}: the results differ", self.kind, self.name);
+        let (alone, judged) = (kernel.smallest / plain.smallest, call.smallest / plain.smallest);
+        let held = alone <= self.bars.0 && judged <= self.bars.1;
+        let mark = if held { "" } else { " MISSED" };
+        let (kind, size, name) = (self.kind, 1 << self.n, self.name);
+        println!("| {kind} | {size} | {name} | {:.1} | {alone:.2} | {:.2} | {judged:.2} | {:.2} |{mark}", plain.smallest, self.bars.0, self.bars.1);
+        held
+    }
 }
 
-// The smallest time of something that needs nothing here.
-fn alone(turns: usize, run: unsafe extern "C" fn()) -> f64 {
-    let mut contender = Contender::<u8>::new(0, Box::new(|_, _| unsafe { run() }));
-    (0..turns).for_each(|_| contender.turn(&[]));
-    contender.smallest
+// The fastest call of 2^n samples or points.
+fn fastest<T>(races: &[Race<T>], n: u32) -> f64 {
+    let of_n = races.iter().filter(|race| race.n == n);
+    of_n.map(|race| race.contenders[2].smallest).fold(f64::MAX, f64::min)
 }
 
-// A row of the first table; whether both bars are held.
-fn row(kind: &str, size: usize, name: &str, bars: (f64, f64), times: [f64; 3]) -> bool {
-    let [plain, kernel, call] = times;
-    let held = kernel <= bars.0 * plain && call <= bars.1 * plain;
-    println!(
-        "| {kind} | {size} | {name} | {plain:.1} | {:.2} | {:.2} | {:.2} | {:.2} |{}",
-        kernel / plain,
-        bars.0,
-        call / plain,
-        bars.1,
-        if held { "" } else { " MISSED" }
-    );
-    held
+fn other(run: unsafe extern "C" fn(u32), n: u32) -> Contender<'static, u8> {
+    Contender::new(0, Box::new(move |_, _| unsafe { run(n) }))
 }
+
+// Times are taken in so many rounds through all contenders, so that no one has the machine's slow moments to itself.
+const ROUNDS: usize = 20;
 
 fn main() {
-    let turns: usize = std::env::args().nth(1).map_or(3000, |w| w.parse().expect("a number of turns"));
+    let turns: usize = std::env::args().nth(1).map_or(200, |w| w.parse().expect("a number of turns in each round"));
     let mut state = 1u64;
     let mut random = move || {
         state = state.wrapping_mul(6364136223846793005).wrapping_add(1442695040888963407);
         (state >> 33) as u32
     };
-    let mut held = true;
-    let mut beside = Vec::new();
+    let residues = [10, 12].map(|n| {
+        let (m, table) = library::modular_table(1 << (n - 1));
+        let samples: Vec<u32> = (0..1 << n).map(|_| random() % m).collect();
+        (n, black_box(m), table, samples)
+    });
+    let points = [10, 12].map(|n| {
+        let samples: Vec<i32> = (0..2 << n).map(|_| (random() % 65535) as i32 - 32767).collect();
+        (n, library::fixed_table(1 << n), samples)
+    });
+
+    let mut modular = Vec::new();
+    for (n, m, table, samples) in &residues {
+        for (schedule, (name, bars, rust)) in (1..).zip(MODULAR) {
+            modular.push(Race::new(
+                "modular",
+                *n,
+                name,
+                bars,
+                samples,
+                [
+                    Box::new(move |buf, scratch| rust(buf, *m, table, scratch)),
+                    Box::new(move |buf, scratch| library::modular_kernel(schedule, buf, *m, table, scratch)),
+                    Box::new(move |buf, scratch| library::modular_call(schedule, buf, *m, table, scratch)),
+                ],
+            ));
+        }
+    }
+    let mut fixed = Vec::new();
+    for (n, table, samples) in &points {
+        for (schedule, (name, bars, rust)) in (1..).zip(FIXED) {
+            fixed.push(Race::new(
+                "fixed",
+                *n,
+                name,
+                bars,
+                samples,
+                [
+                    Box::new(move |buf, scratch| rust(buf, table, scratch)),
+                    Box::new(move |buf, scratch| library::fixed_kernel(schedule, buf, table, scratch)),
+                    Box::new(move |buf, scratch| library::fixed_call(schedule, buf, table, scratch)),
+                ],
+            ));
+        }
+    }
+
+    // What others wrote, by the kind and n of the races beside which it stands.
+    let mut others = Vec::new();
+    for (n, m, _, samples) in &residues {
+        unsafe { library::others_residues(*n, *m, samples.as_ptr()) };
+        others.push((0, *n, "NTL", other(library::others_ntl, *n)));
+    }
+    for (n, _, samples) in &points {
+        unsafe { library::others_points(*n, samples.as_ptr()) };
+        others.push((1, *n, "FFTW, doubles", other(library::others_fftw, *n)));
+        others.push((1, *n, "KissFFT, floats", other(library::others_kiss, *n)));
+    }
+
+    for _ in 0..ROUNDS {
+        modular.iter_mut().for_each(|race| race.turns(turns));
+        fixed.iter_mut().for_each(|race| race.turns(turns));
+        for (_, _, _, contender) in &mut others {
+            (0..turns).for_each(|_| contender.turn(&[]));
+        }
+    }
+
     println!("| | N | schedule | plain Rust, µs | kernel | bar | call | bar |");
     println!("|---|---|---|---|---|---|---|---|");
-    for n in [10, 12] {
-        let size = 1 << n;
-        let (m, table) = library::modular_table(size / 2);
-        let m = black_box(m);
-        let samples: Vec<u32> = (0..size).map(|_| random() % m).collect();
-        let mut best = f64::MAX;
-        for (schedule, (name, bars, rust)) in (1..).zip(MODULAR) {
-            let times = race(
-                turns,
-                &samples,
-                [
-                    Box::new(|buf, scratch| rust(buf, m, &table, scratch)),
-                    Box::new(|buf, scratch| library::modular_kernel(schedule, buf, m, &table, scratch)),
-                    Box::new(|buf, scratch| library::modular_call(schedule, buf, m, &table, scratch)),
-                ],
-            );
-            held &= row("modular", size, name, bars, times);
-            best = best.min(times[2]);
-        }
-        unsafe { library::others_sums_prepare(m, n, samples.as_ptr()) };
-        beside.push(("modular", size, best, vec![("NTL", alone(turns, library::others_ntl))]));
-    }
-    for n in [10, 12] {
-        let size = 1 << n;
-        let table = library::fixed_table(size);
-        let samples: Vec<i32> = (0..2 * size).map(|_| (random() % 65535) as i32 - 32767).collect();
-        let mut best = f64::MAX;
-        for (schedule, (name, bars, rust)) in (1..).zip(FIXED) {
-            let times = race(
-                turns,
-                &samples,
-                [
-                    Box::new(|buf, scratch| rust(buf, &table, scratch)),
-                    Box::new(|buf, scratch| library::fixed_kernel(schedule, buf, &table, scratch)),
-                    Box::new(|buf, scratch| library::fixed_call(schedule, buf, &table, scratch)),
-                ],
-            );
-            held &= row("fixed", size, name, bars, times);
-            best = best.min(times[2]);
-        }
-        unsafe { library::others_spectra_prepare(n, samples.as_ptr()) };
-        let others = vec![("FFTW, doubles", alone(turns, library::others_fftw)), ("KissFFT, floats", alone(turns, library::others_kiss))];
-        beside.push(("fixed", size, best, others));
-    }
+    let held = modular.iter().map(Race::row).chain(fixed.iter().map(Race::row)).fold(true, |all, one| all && one);
     println!("\n| | N | the fastest call, µs | beside | µs | ratio |");
     println!("|---|---|---|---|---|---|");
-    for (kind, size, best, others) in beside {
-        for (name, time) in others {
-            println!("| {kind} | {size} | {best:.1} | {name} | {time:.1} | {:.2} |", best / time);
-        }
+    for (kind, n, name, contender) in &others {
+        let calls = if *kind == 0 { fastest(&modular, *n) } else { fastest(&fixed, *n) };
+        let title = ["modular", "fixed"][*kind];
+        println!("| {title} | {} | {calls:.1} | {name} | {:.1} | {:.2} |", 1 << n, contender.smallest, calls / contender.smallest);
     }
     if !held {
         eprintln!("a bar was missed");

@@ -122,36 +122,26 @@ pub mod fixed {
         ((c as i64 * x as i64 + d as i64 * y as i64 + 16384) >> 15) as i32
     }
 
-    // (a + b)/2 and T(a - b)/32,768.
-    fn step(a: [i32; 2], b: [i32; 2], t: [i32; 2]) -> ([i32; 2], [i32; 2]) {
+    // (a + b)/2 and T(a - b)/32,768, in four parts.
+    fn step(a: &[i32], b: &[i32], t: &[i32]) -> [i32; 4] {
         let (x, y) = (a[0] - b[0], a[1] - b[1]);
-        (
-            [(a[0] + b[0] + 1) >> 1, (a[1] + b[1] + 1) >> 1],
-            [part(t[0], x, t[1], -y), part(t[0], y, t[1], x)],
-        )
+        [(a[0] + b[0] + 1) >> 1, (a[1] + b[1] + 1) >> 1, part(t[0], x, t[1], b[1] - a[1]), part(t[0], y, t[1], x)]
     }
 
-    fn points(buf: &[i32]) -> &[[i32; 2]] {
-        buf.as_chunks().0
-    }
-
-    fn points_mut(buf: &mut [i32]) -> &mut [[i32; 2]] {
-        buf.as_chunks_mut().0
-    }
-
-    fn block(buf: &mut [[i32; 2]], table: &[[i32; 2]], stride: usize) {
+    fn block(buf: &mut [i32], table: &[i32], stride: usize) {
         let h = buf.len() / 2;
         let (low, high) = buf.split_at_mut(h);
-        for ((p, q), t) in low.iter_mut().zip(high).zip(table.iter().step_by(stride)) {
-            (*p, *q) = step(*p, *q, *t);
+        for (i, (p, q)) in low.chunks_exact_mut(2).zip(high.chunks_exact_mut(2)).enumerate() {
+            let t = 2 * stride * i;
+            let [a, b, c, d] = step(p, q, &table[t..t + 2]);
+            (p[0], p[1], q[0], q[1]) = (a, b, c, d);
         }
     }
 
     #[inline(never)]
     pub fn columns(buf: &mut [i32], table: &[i32], _: &mut [i32]) {
-        let (buf, table) = (points_mut(buf), points(table));
         let mut stride = 1;
-        while stride < buf.len() {
+        while stride < table.len() {
             for part in buf.chunks_exact_mut(table.len() * 2 / stride) {
                 block(part, table, stride);
             }
@@ -161,31 +151,29 @@ pub mod fixed {
 
     #[inline(never)]
     pub fn shuffle(buf: &mut [i32], table: &[i32], scratch: &mut [i32]) {
-        let table = points(table);
-        let n = table.len().trailing_zeros() + 1;
-        {
-            let (mut from, mut to) = (points_mut(buf), points_mut(scratch));
-            for s in 0..n {
-                let (low, high) = from.split_at(table.len());
-                for (k, (pair, (&a, &b))) in to.chunks_exact_mut(2).zip(low.iter().zip(high)).enumerate() {
-                    (pair[0], pair[1]) = step(a, b, table[k >> s << s]);
-                }
-                std::mem::swap(&mut from, &mut to);
+        let n = table.len().trailing_zeros();
+        let (mut from, mut to) = (&mut *buf, &mut *scratch);
+        for s in 0..n {
+            let (low, high) = from.split_at(table.len());
+            for (k, (pair, (a, b))) in to.chunks_exact_mut(4).zip(low.chunks_exact(2).zip(high.chunks_exact(2))).enumerate() {
+                let t = 2 * (k >> s << s);
+                pair.copy_from_slice(&step(a, b, &table[t..t + 2]));
             }
-            if n % 2 == 1 {
-                to.copy_from_slice(from);
-            }
+            std::mem::swap(&mut from, &mut to);
+        }
+        if n % 2 == 1 {
+            to.copy_from_slice(from);
         }
         scratch.fill(0);
     }
 
     #[inline(never)]
     pub fn halves(buf: &mut [i32], table: &[i32], _: &mut [i32]) {
-        halve(points_mut(buf), points(table), 1);
+        halve(buf, table, 1);
     }
 
-    fn halve(buf: &mut [[i32; 2]], table: &[[i32; 2]], stride: usize) {
-        if buf.len() < 2 {
+    fn halve(buf: &mut [i32], table: &[i32], stride: usize) {
+        if buf.len() < 4 {
             return;
         }
         block(buf, table, stride);
