@@ -8,7 +8,7 @@ use lib.ListN.{length}
 use Rattle.answer.proofs.Swaps.{Partners, Exchanged, exchanged-swap}
 use Rattle.points.specs.declared.Point.{Point}
 use Rattle.points.specs.Interleaved.{point, points, put, length-put, points-put}
-use Rattle.scans.proofs.Buffers.{origin, Whole, points-at}
+use Rattle.scan_stages.proofs.Buffers.{origin, Whole, points-at}
 
 module _ {l l′ : List ℤ} {n : ℕ} (i j : ℕ) (whole : Whole l n) (e : l′ ≡ put (put l i (point l j)) j (point l i)) where
   pub swapped-whole : Whole l′ n

@@ -26,7 +26,7 @@ fn exchange(buf: &mut [i32], n: usize)
 {
     let mut i = 0;
     while i < buf.len() / 2 {
-        let j = runs::reversed(n, i);
+        let j = reversal::reversed(n, i);
         if i < j {
             swap(buf, i, j);
         }

@@ -6,7 +6,7 @@ use lib.Dec.{eqb}
 use lib.IntN.{ℤ}
 use lib.ListN.{length}
 use Rattle.fourier.specs.Schedules.{Schedule, schedule1, schedule2, schedule3}
-use Rattle.scans.specs.Scans.{zeros}
+use Rattle.scan_stages.specs.Scans.{zeros}
 
 -- The schedule of N = 2^n points.
 unfoldable pub by-schedule : ℕ → ℕ → Schedule

@@ -8,7 +8,7 @@ ghost use Rattle.points.specs.Interleaved.{point, interleaved};
 ghost use Rattle.points.specs.Rounding.{half-up};
 ghost use Rattle.points.specs.Steps.{rounded};
 ghost use Rattle.points.specs.Growth.{grow};
-ghost use Rattle.scans.specs.Scans.{Scanned};
+ghost use Rattle.scan_stages.specs.Scans.{Scanned};
 ghost use Rattle.fixed_judgement.specs.Verdicts.{scratch-fits};
 ghost use Rattle.fixed_work.specs.Works.{by-schedule, cleared};
 

@@ -16,7 +16,7 @@ ghost use Rattle.points.specs.Interleaved.{point, interleaved};
 ghost use Rattle.points.specs.Rounding.{half-up};
 ghost use Rattle.points.specs.Steps.{rounded};
 ghost use Rattle.residues.specs.Judgement.{Judged};
-ghost use Rattle.scans.specs.Scans.{Scanned};
+ghost use Rattle.scan_stages.specs.Scans.{Scanned};
 
 // All n stages of the schedule, over residues.
 #[no_mangle]

@@ -25,6 +25,6 @@ pub fn reverse(buf: &mut [u32]) -> Answer
     if n == 0 {
         return answer::LENGTH;
     }
-    runs::reverse(buf, n);
+    reversal::reverse(buf, n);
     answer::DONE
 }

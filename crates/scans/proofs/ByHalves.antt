@@ -18,9 +18,9 @@ use Rattle.points.specs.Interleaved.{point, points, interleaved}
 use Rattle.points.specs.Rounding.{half-up}
 use Rattle.points.specs.Steps.{rounded}
 use Rattle.runs.proofs.ByHalves.{Halved, halved, Halfway, halfway-none, halfway-next, halfway-all, halves-one}
-use Rattle.scans.specs.Scans.{Halving}
-use Rattle.scans.proofs.Buffers.{origin, Whole, Made, made, points-hold, points-read, interleaved-points, lent-whole, lent-read, points-back, back-whole}
-use Rattle.scans.proofs.Sizes.{lent-scanned, stage-each, butterfly-tabled}
+use Rattle.scan_stages.specs.Scans.{Halving}
+use Rattle.scan_stages.proofs.Buffers.{origin, Whole, Made, made, points-hold, points-read, interleaved-points, lent-whole, lent-read, points-back, back-whole}
+use Rattle.scan_stages.proofs.Sizes.{lent-scanned, stage-each, butterfly-tabled}
 
 -- The buffer has two halves of h points.
 abbrev pub Sizes : ℕ → List ℤ → List ℤ → ℕ → Type 0

@@ -14,9 +14,9 @@ use Rattle.points.specs.Interleaved.{point, points, interleaved}
 use Rattle.points.specs.Rounding.{half-up}
 use Rattle.points.specs.Steps.{rounded}
 use Rattle.points.specs.Growth.{grow}
-use Rattle.scans.specs.Scans.{Scanned}
-use Rattle.scans.proofs.Buffers.{origin, Whole, made, points-hold, points-read, interleaved-points}
-use Rattle.scans.proofs.Sizes.{Tabled, stage-sized, shuffle-tabled}
+use Rattle.scan_stages.specs.Scans.{Scanned}
+use Rattle.scan_stages.proofs.Buffers.{origin, Whole, made, points-hold, points-read, interleaved-points}
+use Rattle.scan_stages.proofs.Sizes.{Tabled, stage-sized, shuffle-tabled}
 
 -- A table of 2^n numbers has 2^(n-1) pairs.
 pub table-pairs : (n : ℕ) {T : ℕ} → 0 < n → T ≡ 2 ^ n → T / 2 ≡ 2 ^ (n - 1)

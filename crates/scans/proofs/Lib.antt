@@ -1,6 +1,3 @@
 -- Laws that serve proofs of code.
-pub mod Buffers
-pub mod Sizes
-pub mod Blocks
 pub mod Going
 pub mod ByHalves

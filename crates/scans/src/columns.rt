@@ -1,5 +1,4 @@
 // Schedule 1, by columns.
-use crate::stages;
 ghost use mathlib.Core.Path.{_≡_};
 ghost use Prim.Native.Nat.{_+_, _^_, _≤_, _<_};
 ghost use lib.ListN.{length};
@@ -9,7 +8,7 @@ ghost use Rattle.points.specs.Interleaved.{point, interleaved};
 ghost use Rattle.points.specs.Rounding.{half-up};
 ghost use Rattle.points.specs.Steps.{rounded};
 ghost use Rattle.points.specs.Growth.{grow};
-ghost use Rattle.scans.specs.Scans.{Scanned};
+ghost use Rattle.scan_stages.specs.Scans.{Scanned};
 
 // All n stages.
 pub fn by_columns(buf: &mut [i32], table: &[i32], n: usize)
@@ -32,5 +31,5 @@ fn column_stage(buf: &mut [i32], table: &[i32], n: usize, s: usize)
     ensures { λ _. ⌜ now (buf .exit) ≡ interleaved (2 ^ n)
         (step (rounded half-up (point (now (table .entry)))) (columns n s) (point (now (buf .entry)))) ⌝ }
 {
-    stages::stage(buf, table, 1 << s, 1 << (n - 1 - s));
+    scan_stages::stage(buf, table, 1 << s, 1 << (n - 1 - s));
 }

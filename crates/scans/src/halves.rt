@@ -1,5 +1,4 @@
 // Schedule 3, by halves.
-use crate::stages;
 ghost use mathlib.Core.Path.{_≡_};
 ghost use Prim.Native.Nat.{ℕ, _+_, _^_};
 ghost use lib.ListN.{length};
@@ -7,7 +6,7 @@ ghost use Rattle.fourier.specs.Schedules.{strided, halves};
 ghost use Rattle.points.specs.Interleaved.{point, interleaved};
 ghost use Rattle.points.specs.Rounding.{half-up};
 ghost use Rattle.points.specs.Steps.{rounded};
-ghost use Rattle.scans.specs.Scans.{Halving};
+ghost use Rattle.scan_stages.specs.Scans.{Halving};
 
 // "The first stage of schedule 1, then the same on each half of the buffer, where each half is lent on to be written; the root of a
 // half is x squared, so its exponents count double in the lent table."
@@ -19,7 +18,7 @@ pub fn by_halves(buf: &mut [i32], table: &[i32], stride: usize)
     // A half has h numbers, h / 2 points.
     let h = buf.len() / 2;
     if 1 < h {
-        stages::block(buf, table, stride, h / 2);
+        scan_stages::block(buf, table, stride, h / 2);
         by_halves(&mut buf[..h], table, stride + stride);
         by_halves(&mut buf[h..], table, stride + stride);
     }

@@ -3,7 +3,6 @@ mod columns;
 mod halves;
 mod moves;
 mod shuffle;
-mod stages;
 
 pub use columns::by_columns;
 pub use halves::by_halves;

@@ -1,7 +1,7 @@
 // Moves between the buffer and the scratch.
 ghost use mathlib.Core.Path.{_≡_};
 ghost use lib.ListN.{length};
-ghost use Rattle.scans.specs.Scans.{zeros};
+ghost use Rattle.scan_stages.specs.Scans.{zeros};
 
 // What stands in one buffer, to the other.
 pub fn copy(from: &[i32], to: &mut [i32])

@@ -1,6 +1,5 @@
 // Schedule 2, the perfect shuffle: buffer and scratch take turns.
 use crate::moves;
-use crate::stages;
 ghost use mathlib.Core.Path.{_≡_};
 ghost use Prim.Native.Nat.{_+_, _^_, _≤_, _<_};
 ghost use lib.ListN.{length};
@@ -10,7 +9,7 @@ ghost use Rattle.points.specs.Interleaved.{point, interleaved};
 ghost use Rattle.points.specs.Rounding.{half-up};
 ghost use Rattle.points.specs.Steps.{rounded};
 ghost use Rattle.points.specs.Growth.{grow};
-ghost use Rattle.scans.specs.Scans.{Scanned, zeros};
+ghost use Rattle.scan_stages.specs.Scans.{Scanned, zeros};
 
 // All n stages, two to a turn, there and back; a last one is moved back from scratch.
 pub fn by_shuffle(buf: &mut [i32], scratch: &mut [i32], table: &[i32], n: usize)
@@ -62,8 +61,8 @@ fn shuffle_stage(from: &[i32], to: &mut [i32], table: &[i32], n: usize, s: usize
     while k < half {
         let a = points::point_at(from, k);
         let b = points::point_at(from, k + half);
-        let e = shuffles::multiple(k, s);
-        let parts = stages::pair(a, b, table, e);
+        let e = counting::multiple(k, s);
+        let parts = scan_stages::pair(a, b, table, e);
         points::put_point(to, 2 * k, parts.0);
         points::put_point(to, 2 * k + 1, parts.1);
         k += 1;

@@ -1,4 +1,2 @@
 -- Laws that serve proofs of code.
-pub mod Reversal
-pub mod Exponents
 pub mod Places

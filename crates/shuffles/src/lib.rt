@@ -1,10 +1,8 @@
 // Schedules 2 and 5 over residues: stages from one buffer into the other.
-mod counting;
 mod moves;
 mod stages;
 mod turns;
 
-pub use counting::multiple;
 pub use moves::copy;
 pub use turns::by_pease;
 pub use turns::by_shuffle;

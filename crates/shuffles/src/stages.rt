@@ -1,5 +1,4 @@
 // One stage of schedule 2 or 5.
-use crate::counting;
 use butterflies::Way;
 use residues::Exponent;
 use residues::Modulus;

@@ -6,8 +6,8 @@ use native.Mathlib.Omega.{arith}
 use Rattle.answer.proofs.Swaps.{Exchanged, exchanged-none, exchanged-stay, exchanged-all}
 use Rattle.fourier.specs.Reverse.{rev, rev-lt}
 use Rattle.points.specs.Interleaved.{point, points}
-use Rattle.runs.proofs.Bits.{rev-partners}
-use Rattle.scans.proofs.Buffers.{origin, Whole, points-hold, interleaved-points}
+use Rattle.reversal.proofs.Bits.{rev-partners}
+use Rattle.scan_stages.proofs.Buffers.{origin, Whole, points-hold, interleaved-points}
 use Rattle.fixed.proofs.Swaps.{swapped-whole, swapped}
 use borrow.Author.Needs.{needs}
 use Rattle.fixed.proofs.reversing.exchange.Statement.{statement}

@@ -8,7 +8,7 @@ use borrow.Author.Needs.{needs}
 use Rattle.answer.specs.declared.Answer.{Answer}
 use Rattle.answer.specs.Choice.{done-left, refused-left}
 use Rattle.points.specs.Growth.{grow}
-use Rattle.scans.specs.Scans.{Scanned}
+use Rattle.scan_stages.specs.Scans.{Scanned}
 use Rattle.fixed_judgement.specs.Verdicts.{offers, scratch-fits, transform-verdict}
 use Rattle.fixed_judgement.specs.Ready.{Ready, transform-ready, table-turns, offers-range}
 use Rattle.fixed.proofs.transforming.transform.Statement.{statement}

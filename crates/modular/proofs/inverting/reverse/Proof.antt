@@ -12,7 +12,7 @@ use Rattle.modular.proofs.inverting.reverse.Tie as tie
 use Rattle.modular.proofs.inverting.reverse.Reads as reads
 use Rattle.modular.proofs.inverting.reverse.Lts as lts
 use Rattle.answer.proofs.log_of.Reads as log-of-reads
-use Rattle.runs.proofs.reverse.Reads as reverse-reads
+use Rattle.reversal.proofs.reverse.Reads as reverse-reads
 
 log-of-requires : tie.Need-log-of-requires
 log-of-requires c κs = search needs

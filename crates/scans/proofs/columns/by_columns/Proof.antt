@@ -6,7 +6,7 @@ use lib.Pow.{pow-pos}
 use Rattle.fourier.specs.Schedules.{columns}
 use Rattle.fourier.specs.Blocks.{butterfly-within}
 use Rattle.runs.proofs.Stages.{fits}
-use Rattle.scans.proofs.Sizes.{scanned-most, butterfly-tabled}
+use Rattle.scan_stages.proofs.Sizes.{scanned-most, butterfly-tabled}
 use Rattle.scans.proofs.Going.{Going, going-none, going-next, going-all, table-pairs}
 use borrow.Author.Needs.{needs}
 use Rattle.scans.proofs.columns.by_columns.Statement.{statement}

@@ -9,7 +9,7 @@ use Rattle.scans.proofs.columns.column_stage.Statement.{statement}
 use Rattle.scans.proofs.columns.column_stage.Tie as tie
 use Rattle.scans.proofs.columns.column_stage.Reads as reads
 use Rattle.scans.proofs.columns.column_stage.Lts as lts
-use Rattle.scans.proofs.stages.stage.Reads as stage-reads
+use Rattle.scan_stages.proofs.stage.Reads as stage-reads
 
 shl-stage : tie.Need-shl-stage
 shl-stage c = search needs

@@ -9,9 +9,9 @@ use lib.Seq.{length-take-le}
 use borrow.Rule.Slice.PartMut.{putMid}
 use borrow.Fn.Kinds.{In}
 use borrow.Fn.PlainCycle.{Measures, is, falls, and}
-use Rattle.scans.proofs.Sizes.{scanned-most}
+use Rattle.scan_stages.proofs.Sizes.{scanned-most}
 use Rattle.scans.proofs.ByHalves.{Sizes, sizes, Reached, reached-none, lent-long, half-lent, reached-next, reached-all, reached-one}
-use Rattle.scans.proofs.stages.block.Reads as block-reads
+use Rattle.scan_stages.proofs.block.Reads as block-reads
 use Rattle.scans.proofs.halves.by_halves.Reads as reads
 use Rattle.scans.proofs.halves.by_halves.Kinds as kinds
 use Rattle.scans.proofs.halves.+by_halves.Lts-by_halves as lts

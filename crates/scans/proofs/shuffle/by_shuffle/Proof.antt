@@ -4,8 +4,8 @@ use mathlib.Core.Path.{_≡_, sym, ap, _∙_}
 use native.Mathlib.Omega.{arith}
 use lib.ListN.{length}
 use Rattle.fourier.specs.Schedules.{shuffle}
-use Rattle.scans.specs.Scans.{zeros}
-use Rattle.scans.proofs.Sizes.{scanned-most}
+use Rattle.scan_stages.specs.Scans.{zeros}
+use Rattle.scan_stages.proofs.Sizes.{scanned-most}
 use Rattle.scans.proofs.Going.{Going, going-none, going-all, turn-next}
 use borrow.Author.Needs.{needs}
 use Rattle.scans.proofs.shuffle.by_shuffle.Statement.{statement}

@@ -9,8 +9,8 @@ use Rattle.fourier.specs.Sizes.{two-halves}
 use Rattle.points.specs.Interleaved.{point, points}
 use Rattle.points.specs.Rounding.{half-up}
 use Rattle.points.specs.Steps.{rounded}
-use Rattle.scans.proofs.Buffers.{origin, Whole, points-hold, interleaved-points}
-use Rattle.scans.proofs.Blocks.{put-whole, shuffle-put}
+use Rattle.scan_stages.proofs.Buffers.{origin, Whole, points-hold, interleaved-points}
+use Rattle.scan_stages.proofs.Blocks.{put-whole, shuffle-put}
 use Rattle.scans.proofs.Going.{table-pairs}
 use borrow.Author.Needs.{needs}
 use Rattle.scans.proofs.shuffle.shuffle_stage.Statement.{statement}
@@ -19,8 +19,8 @@ use Rattle.scans.proofs.shuffle.shuffle_stage.Reads as reads
 use Rattle.scans.proofs.shuffle.shuffle_stage.Lts as lts
 use Rattle.points.proofs.point_at.Reads as point-at-reads
 use Rattle.points.proofs.put_point.Reads as put-point-reads
-use Rattle.scans.proofs.stages.pair.Reads as pair-reads
-use Rattle.shuffles.proofs.multiple.Reads as multiple-reads
+use Rattle.scan_stages.proofs.pair.Reads as pair-reads
+use Rattle.counting.proofs.multiple.Reads as multiple-reads
 
 abbrev Inv-loop : tie.InvT-loop
 Inv-loop from to₀ table n s half k₀ to k =

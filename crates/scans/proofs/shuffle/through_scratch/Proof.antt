@@ -1,6 +1,6 @@
 -- What the stage leaves in scratch is copied to the buffer.
 use mathlib.Core.Path.{ap, _∙_}
-use Rattle.scans.specs.Scans.{zeros}
+use Rattle.scan_stages.specs.Scans.{zeros}
 use borrow.Author.Needs.{needs}
 use Rattle.scans.proofs.shuffle.through_scratch.Statement.{statement}
 use Rattle.scans.proofs.shuffle.through_scratch.Tie as tie

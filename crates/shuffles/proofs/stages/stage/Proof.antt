@@ -8,8 +8,9 @@ use Rattle.answer.proofs.Writes.{Written, written-none, written-all}
 use Rattle.fourier.specs.Schedules.{step}
 use Rattle.fourier.specs.Sizes.{two-halves}
 use Rattle.butterflies.specs.Ways.{wing}
-use Rattle.shuffles.specs.Stages.{exponents, stages}
-use Rattle.shuffles.proofs.Exponents.{twelve, exponents-first, exponents-below}
+use Rattle.counting.specs.Exponents.{exponents}
+use Rattle.shuffles.specs.Stages.{stages}
+use Rattle.counting.proofs.Exponents.{twelve, exponents-first, exponents-below}
 use Rattle.shuffles.proofs.Places.{pair-next}
 use borrow.Author.Needs.{needs}
 use Rattle.shuffles.proofs.stages.stage.Statement.{statement}
@@ -17,7 +18,7 @@ use Rattle.shuffles.proofs.stages.stage.Tie as tie
 use Rattle.shuffles.proofs.stages.stage.Reads as reads
 use Rattle.shuffles.proofs.stages.stage.Lts as lts
 use Rattle.butterflies.proofs.pair.Reads as pair-reads
-use Rattle.shuffles.proofs.counting.next.Reads as next-reads
+use Rattle.counting.proofs.next.Reads as next-reads
 
 abbrev Inv-loop : tie.InvT-loop
 Inv-loop from to₀ table m way n s half e₀ k₀ to e k =

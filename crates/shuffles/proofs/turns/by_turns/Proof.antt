@@ -6,7 +6,7 @@ use lib.ListN.{length}
 use Rattle.fourier.specs.Blocks.{ran-all}
 use Rattle.butterflies.proofs.Going.{Going, going-none}
 use Rattle.shuffles.specs.Stages.{stages, zeros}
-use Rattle.shuffles.proofs.Exponents.{twelve}
+use Rattle.counting.proofs.Exponents.{twelve}
 use Rattle.shuffles.proofs.Places.{turn-next}
 use borrow.Author.Needs.{needs}
 use Rattle.shuffles.proofs.turns.by_turns.Statement.{statement}

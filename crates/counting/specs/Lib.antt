@@ -1,0 +1,2 @@
+-- What is counted.
+pub mod Exponents
