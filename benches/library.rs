@@ -29,6 +29,7 @@ extern "C" {
     fn fdr_fixed_transform(
         schedule: u32, buf: *mut i32, buf_len: usize, table: *const i32, table_len: usize, scratch: *mut i32, scratch_len: usize,
     ) -> Answer;
+    fn fdr_fixed_reverse(buf: *mut i32, buf_len: usize) -> Answer;
 }
 
 #[link(name = "kernels", kind = "static")]
@@ -85,4 +86,10 @@ pub fn fixed_kernel(schedule: u32, buf: &mut [i32], table: &[i32], scratch: &mut
 
 pub fn fixed_call(schedule: u32, buf: &mut [i32], table: &[i32], scratch: &mut [i32]) {
     done(unsafe { fdr_fixed_transform(schedule, buf.as_mut_ptr(), buf.len(), table.as_ptr(), table.len(), scratch.as_mut_ptr(), scratch.len()) })
+}
+
+// The call by schedule 1, and the reversal: the spectrum in order, as others leave it.
+pub fn fixed_in_order(buf: &mut [i32], table: &[i32], scratch: &mut [i32]) {
+    fixed_call(1, buf, table, scratch);
+    done(unsafe { fdr_fixed_reverse(buf.as_mut_ptr(), buf.len()) })
 }

@@ -88,10 +88,17 @@ impl<'a, T: Copy + Default + PartialEq> Race<'a, T> {
     }
 }
 
-// The fastest call of 2^n samples or points.
-fn fastest<T>(races: &[Race<T>], n: u32) -> f64 {
-    let of_n = races.iter().filter(|race| race.n == n);
-    of_n.map(|race| race.contenders[2].smallest).fold(f64::MAX, f64::min)
+// A turn of a call and of what stands beside it.
+fn beside<T: Copy + Default>(samples: &[T], call: &mut Contender<T>, others: &mut [(&str, Contender<u8>)]) {
+    call.turn(samples);
+    others.iter_mut().for_each(|(_, other)| other.turn(&[]));
+}
+
+// Rows of the second table.
+fn rows(title: &str, n: u32, ours: f64, others: &[(&str, Contender<u8>)]) {
+    for (name, other) in others {
+        println!("| {title} | {} | {ours:.1} | {name} | {:.1} | {:.2} |", 1 << n, other.smallest, ours / other.smallest);
+    }
 }
 
 fn other(run: unsafe extern "C" fn(u32), n: u32) -> Contender<'static, u8> {
@@ -103,6 +110,7 @@ const ROUNDS: usize = 20;
 
 fn main() {
     let turns: usize = std::env::args().nth(1).map_or(200, |w| w.parse().expect("a number of turns in each round"));
+    assert!(turns > 0, "no turns, no times");
     let mut state = 1u64;
     let mut random = move || {
         state = state.wrapping_mul(6364136223846793005).wrapping_add(1442695040888963407);
@@ -153,36 +161,37 @@ fn main() {
         }
     }
 
-    // What others wrote, by the kind and n of the races beside which it stands.
-    let mut others = Vec::new();
-    for (n, m, _, samples) in &residues {
+    // What others wrote, and beside it the call by schedule 1, in fixed point with the reversal, since they leave the spectrum in order.
+    let mut sums = Vec::new();
+    for (n, m, table, samples) in &residues {
         unsafe { library::others_residues(*n, *m, samples.as_ptr()) };
-        others.push((0, *n, "NTL", other(library::others_ntl, *n)));
+        let call = Contender::new(samples.len(), Box::new(move |buf, scratch| library::modular_call(1, buf, *m, table, scratch)));
+        sums.push((*n, samples, call, vec![("NTL", other(library::others_ntl, *n))]));
     }
-    for (n, _, samples) in &points {
+    let mut spectra = Vec::new();
+    for (n, table, samples) in &points {
         unsafe { library::others_points(*n, samples.as_ptr()) };
-        others.push((1, *n, "FFTW, doubles", other(library::others_fftw, *n)));
-        others.push((1, *n, "KissFFT, floats", other(library::others_kiss, *n)));
+        let call = Contender::new(samples.len(), Box::new(move |buf, scratch| library::fixed_in_order(buf, table, scratch)));
+        let others = vec![("FFTW, doubles", other(library::others_fftw, *n)), ("KissFFT, floats", other(library::others_kiss, *n))];
+        spectra.push((*n, samples, call, others));
     }
 
     for _ in 0..ROUNDS {
         modular.iter_mut().for_each(|race| race.turns(turns));
         fixed.iter_mut().for_each(|race| race.turns(turns));
-        for (_, _, _, contender) in &mut others {
-            (0..turns).for_each(|_| contender.turn(&[]));
+        for _ in 0..turns {
+            sums.iter_mut().for_each(|(_, samples, call, others)| beside(samples, call, others));
+            spectra.iter_mut().for_each(|(_, samples, call, others)| beside(samples, call, others));
         }
     }
 
     println!("| | N | schedule | plain Rust, µs | kernel | bar | call | bar |");
     println!("|---|---|---|---|---|---|---|---|");
     let held = modular.iter().map(Race::row).chain(fixed.iter().map(Race::row)).fold(true, |all, one| all && one);
-    println!("\n| | N | the fastest call, µs | beside | µs | ratio |");
+    println!("\n| | N | ours, µs | beside | µs | ratio |");
     println!("|---|---|---|---|---|---|");
-    for (kind, n, name, contender) in &others {
-        let calls = if *kind == 0 { fastest(&modular, *n) } else { fastest(&fixed, *n) };
-        let title = ["modular", "fixed"][*kind];
-        println!("| {title} | {} | {calls:.1} | {name} | {:.1} | {:.2} |", 1 << n, contender.smallest, calls / contender.smallest);
-    }
+    sums.iter().for_each(|(n, _, call, others)| rows("modular, schedule 1", *n, call.smallest, others));
+    spectra.iter().for_each(|(n, _, call, others)| rows("fixed, schedule 1 and reversal", *n, call.smallest, others));
     if !held {
         eprintln!("a bar was missed");
         std::process::exit(1);

@@ -61,13 +61,12 @@ pub mod modular {
     }
 
     fn halve(buf: &mut [u32], m: u32, table: &[u32], stride: usize) {
-        if buf.len() < 2 {
-            return;
-        }
         block(buf, table, m, stride);
         let (low, high) = buf.split_at_mut(buf.len() / 2);
-        halve(low, m, table, 2 * stride);
-        halve(high, m, table, 2 * stride);
+        if low.len() > 1 {
+            halve(low, m, table, 2 * stride);
+            halve(high, m, table, 2 * stride);
+        }
     }
 
     #[inline(never)]
@@ -118,14 +117,16 @@ pub mod modular {
 }
 
 pub mod fixed {
-    fn part(c: i32, x: i32, d: i32, y: i32) -> i32 {
-        ((c as i64 * x as i64 + d as i64 * y as i64 + 16384) >> 15) as i32
-    }
-
     // (a + b)/2 and T(a - b)/32,768, in four parts.
     fn step(a: &[i32], b: &[i32], t: &[i32]) -> [i32; 4] {
-        let (x, y) = (a[0] - b[0], a[1] - b[1]);
-        [(a[0] + b[0] + 1) >> 1, (a[1] + b[1] + 1) >> 1, part(t[0], x, t[1], b[1] - a[1]), part(t[0], y, t[1], x)]
+        let (x, y) = ((a[0] - b[0]) as i64, (a[1] - b[1]) as i64);
+        let (c, d) = (t[0] as i64, t[1] as i64);
+        [
+            (a[0] + b[0] + 1) >> 1,
+            (a[1] + b[1] + 1) >> 1,
+            ((c * x - d * y + 16384) >> 15) as i32,
+            ((c * y + d * x + 16384) >> 15) as i32,
+        ]
     }
 
     fn block(buf: &mut [i32], table: &[i32], stride: usize) {
@@ -155,9 +156,13 @@ pub mod fixed {
         let (mut from, mut to) = (&mut *buf, &mut *scratch);
         for s in 0..n {
             let (low, high) = from.split_at(table.len());
-            for (k, (pair, (a, b))) in to.chunks_exact_mut(4).zip(low.chunks_exact(2).zip(high.chunks_exact(2))).enumerate() {
-                let t = 2 * (k >> s << s);
-                pair.copy_from_slice(&step(a, b, &table[t..t + 2]));
+            // 2^s pairs have the same exponent
+            let size = 2 << s;
+            let runs = to.chunks_exact_mut(2 * size).zip(low.chunks_exact(size).zip(high.chunks_exact(size)));
+            for ((run, (low, high)), t) in runs.zip(table.chunks_exact(size)) {
+                for (pair, (a, b)) in run.chunks_exact_mut(4).zip(low.chunks_exact(2).zip(high.chunks_exact(2))) {
+                    pair.copy_from_slice(&step(a, b, t));
+                }
             }
             std::mem::swap(&mut from, &mut to);
         }
@@ -173,12 +178,11 @@ pub mod fixed {
     }
 
     fn halve(buf: &mut [i32], table: &[i32], stride: usize) {
-        if buf.len() < 4 {
-            return;
-        }
         block(buf, table, stride);
         let (low, high) = buf.split_at_mut(buf.len() / 2);
-        halve(low, table, 2 * stride);
-        halve(high, table, 2 * stride);
+        if low.len() > 2 {
+            halve(low, table, 2 * stride);
+            halve(high, table, 2 * stride);
+        }
     }
 }

@@ -6,8 +6,13 @@ trap 'rm -rf "$made"' EXIT
 . tests/meter/build.sh
 if command -v g++ >/dev/null; then
     g++ -Wall -Wextra -Werror -fsyntax-only -x c++ include/fandrute.h || exit 1
+else
+    echo 'there is no g++: the header is not tried in C++'
 fi
 sed -n '/^#ifndef/,$ s/^ \*     \([^/]*;\).*/\1/p' include/fandrute.h >"$made/examples"
+calls=$(grep -c '^fdr_[a-z]* *fdr_[a-z_]*(' include/fandrute.h)
+used=$(grep -o 'fdr_[a-z]*_[a-z]*(' "$made/examples" | sort -u | grep -c .)
+[ "$calls" -eq "$used" ] || { echo "include/fandrute.h has $calls calls and examples of $used"; exit 1; }
 while read -r line; do
     grep -qF "$line" tests/meter/values.c || { echo "tests/meter/values.c lacks the header's example: $line"; exit 1; }
 done <"$made/examples"

@@ -1,4 +1,4 @@
-# To be read with `.` at the repository's root: makes the library's archive where it is older than the crates, and gives
+# To be read with `.` at the repository's root: makes the library's archive, and gives
 #     compile PROGRAM SOURCE    a C program with the header and the archive, to be started behind $emulator
 # The archive is for x86-64; elsewhere a compiler for it is fetched where there is none.
 . examples/kit.sh

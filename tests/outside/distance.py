@@ -79,7 +79,7 @@ def main():
                     print(f"DIFFERENCE: {what}, N = {1 << n}, line {lines + 1}")
         lines += 1
     print(f"Python {sys.version.split()[0]}: {lines} transforms of at most 64 points compared; {wrong} differences")
-    return 1 if wrong else 0
+    return 1 if wrong or not lines else 0
 
 
 sys.exit(main())

@@ -3,6 +3,7 @@
 # An EFFORT of 2, as it is when none is given, takes about two minutes.
 #     sh tests/outside/distance.sh [SEED [EFFORT]]
 cd "$(dirname "$0")/../.." || exit 2
+[ "$(uname -m)" = x86_64 ] || { echo "$0: the library is for x86-64" >&2; exit 2; }
 . tests/outside/ready.sh
 need g++ libgmp-dev python3
 archive meter

@@ -3,6 +3,7 @@
 # where a part is further off than e(n) and the rounding of the table can explain.
 #     sh tests/outside/spectra.sh [SEED]
 cd "$(dirname "$0")/../.." || exit 2
+[ "$(uname -m)" = x86_64 ] || { echo "$0: the library is for x86-64" >&2; exit 2; }
 . tests/outside/ready.sh
 need g++ libfftw3-dev
 archive meter

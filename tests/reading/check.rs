@@ -250,7 +250,7 @@ fn residue_refusals(checks: &mut Checks) {
     ] {
         refusals(checks, lent, numbers, place);
     }
-    for m in [0, 1, 2, 4, 1 << 31, (1 << 31) + 1, u32::MAX] {
+    for m in [0, 1, 2, 4, 6, (1 << 31) - 2, 1 << 31, (1 << 31) + 1, u32::MAX] {
         refusals(checks, (2, &data, m, &[9], 0), [2; 4], 0);
     }
     for length in [0, 1, 3, 8192] {

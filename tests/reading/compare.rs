@@ -119,8 +119,9 @@ pub fn requests(directory: &str, command: &[String], seed: u64) -> Report {
         let child = started(command, input.into())?;
         let output = child.wait_with_output().map_err(failed)?;
         let (found, wanted) = (String::from_utf8_lossy(&output.stdout), dft(request));
-        if found != wanted {
-            let lines = format!("the reading prints {wanted:?}\ndft prints {found:?}");
+        if found != wanted || !output.status.success() {
+            let ended = output.status;
+            let lines = format!("the reading prints {wanted:?}\ndft prints {found:?} and ends with {ended}");
             let bytes = format!("the request is {request:02x?}");
             return Err(format!("request {place} of {count}:\n{lines}\n{bytes}"));
         }

@@ -183,7 +183,7 @@ impl Requests {
     }
 
     fn refused_moduli(&mut self) {
-        let even = [0, 2, 4, 998244352, 1 << 31, u32::MAX - 1];
+        let even = [0, 2, 4, 6, 998244352, (1 << 31) - 2, 1 << 31, u32::MAX - 1];
         let odd = [1, (1 << 31) + 1, (1 << 31) + 3, 3 << 30 | 1, u32::MAX];
         for m in even.into_iter().chain(odd) {
             for (schedule, n) in [(1, 1), (2, 2), (4, 3)] {

@@ -16,12 +16,14 @@ const JUDGING: [(Function, &[u32]); 4] = [
 ];
 
 /// No moduli.
-const REFUSED_MODULI: [u32; 12] = [
+const REFUSED_MODULI: [u32; 14] = [
     0,
     1,
     2,
     4,
+    6,
     998244352,
+    (1 << 31) - 2,
     1 << 31,
     (1 << 31) + 1,
     (1 << 31) + 3,
@@ -202,7 +204,7 @@ impl Residues {
             6 => call.scratch.resize(wrong_length(1 << n, random), 9),
             7 => {
                 let first = if call.function == ModularStage { 3 } else { 6 };
-                let others = [0, 6, 257, 65537, 1 << 31, u32::MAX];
+                let others = [0, 6, 257, 65537, 1 << 31, 1 << 31 | 1, u32::MAX];
                 call.schedule =
                     random.one_of(&[&others, &[first, first + 1, first + 2][..]].concat());
             }

@@ -256,14 +256,14 @@ impl Scans {
 
     /// 7 and 1.
     fn refused_schedules_and_lengths(&mut self) {
-        for schedule in [0, 4, 5, 6, 8, 257, 65538, 1 << 31, u32::MAX] {
+        for schedule in [0, 4, 5, 6, 8, 257, 65538, 1 << 31, 1 << 31 | 1, u32::MAX] {
             for n in [1, 3] {
                 let scan = self.right(schedule, n);
                 let scratch = self.garbage(2 << n);
                 self.add(Scan { scratch, ..scan });
             }
         }
-        for length in [0, 1, 2, 3, 5, 6, 7, 9, 10, 12, 15, 17, 24, 8193, 8200] {
+        for length in [0, 1, 2, 3, 5, 6, 7, 9, 10, 12, 15, 17, 24, 8193, 8200, 16384] {
             for schedule in 1..=if length < 8000 { 3 } else { 1 } {
                 let buf = self.garbage(length);
                 let mut table = sines(12);
@@ -337,7 +337,7 @@ impl Scans {
             scan.buf.resize(random.one_of(&lengths()), -9);
         }
         if set & 32 != 0 {
-            scan.schedule = random.one_of(&[0, 4, 5, 6, 257, 1 << 31, u32::MAX]);
+            scan.schedule = random.one_of(&[0, 4, 5, 6, 257, 1 << 31, 1 << 31 | 1, u32::MAX]);
         }
     }
 

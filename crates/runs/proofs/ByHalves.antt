@@ -6,7 +6,7 @@ use native.Mathlib.Nat.{two-pow-succ, mul-le-mul-left}
 use native.Mathlib.Omega.{arith}
 use lib.ListN.{length, getD}
 use lib.Pow.{pow-pos}
-use borrow.Rule.Slice.PartMut.{midOf, putMid}
+use borrow.Rule.Slice.PartMut.{midOf, putMid, put-same}
 use Rattle.answer.specs.Lists.{at, tabulate, Holds, holds, listed, tabulate-self}
 use Rattle.answer.proofs.Writes.{Written, written-none, written-all}
 use Rattle.answer.proofs.Parts.{mid-holds, written-part}
@@ -86,6 +86,20 @@ pub halfway-all : {C : Type 0} {z : C} {w : Wing C} {c h N : ℕ} {d : Buffer C}
 halfway-all {N = N} r whole some zero e = absurd (let one : N ≡ 1 = e in omega arith)
 halfway-all {h = h} r whole some (suc n) e = rw whole (listed (written-all (r .written n (omega (arith, two-pow-succ n))) (omega arith)))
 
+-- A single place: nothing is done.
+pub halves-one : {C : Type 0} (z : C) (w : Wing C) (l : List C) (n : ℕ) → length l ≡ 2 ^ n → length l / 2 ≤ 0 → l ≡ tabulate (length l) (halves w n (λ p. getD l p z))
+unfolding halves
+halves-one z w l zero e none = sym (tabulate-self z l)
+halves-one z w l (suc n) e none = absurd (omega (arith, two-pow-succ n, pow-pos n))
+
+-- Two places: their halves are a single place each.
+pub halfway-two : {C : Type 0} {z : C} {w : Wing C} {c h : ℕ} {d : Buffer C} {l : List C} → Halfway z w c h d 0 l → h ≡ 1 → Halfway z w c h d (h + h) l
+halfway-two {z = z} {w = w} {c = c} {h = h} {l = l} r one =
+    let lone : (o : ℕ) → length (midOf o h l) ≡ h → (n : ℕ) → length (midOf o h l) ≡ 2 ^ n → midOf o h l ≡ tabulate (length (midOf o h l)) (halves (strided (c + c) w) n (λ p. getD (midOf o h l) p z)) =
+    (λ o long n e. halves-one z (strided (c + c) w) (midOf o h l) n e (omega arith)) in
+    let low : Halfway z w c h _ h l = rw put-same at (halfway-next r h refl (omega arith) 0 h (omega arith) (omega arith) (lone 0 (lent r h refl (omega arith) 0 one .long))) in
+    rw put-same at (halfway-next low h refl (omega arith) 1 (h + h) (omega arith) refl (lone h (lent low h refl (omega arith) 0 one .long)))
+
 -- What schedule 3 asks of a half.
 pub record Asked (m : ℕ) (t : List ℕ) (c h : ℕ) (l : List ℕ) : Type 0 where
   pub judged : Judged m t l
@@ -102,9 +116,3 @@ half-asked way {m} {t} judged sizes r k size room =
       long = mid .long ∙ size;
       double = rw (mid .long, size) (sizes .double);
     }
-
--- A single place: nothing is done.
-pub halves-one : {C : Type 0} (z : C) (w : Wing C) (l : List C) (n : ℕ) → length l ≡ 2 ^ n → length l / 2 ≤ 0 → l ≡ tabulate (length l) (halves w n (λ p. getD l p z))
-unfolding halves
-halves-one z w l zero e none = sym (tabulate-self z l)
-halves-one z w l (suc n) e none = absurd (omega (arith, two-pow-succ n, pow-pos n))

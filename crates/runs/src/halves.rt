@@ -18,11 +18,14 @@ pub fn by_halves(buf: &mut [u32], table: &[u32], m: Modulus, stride: usize)
     ensures { λ _. ⌜ ((n : ℕ) → length (now (buf .entry)) ≡ 2 ^ n → now (buf .exit) ≡ tabulate (length (now (buf .entry)))
         (halves (strided stride (frequency-mod (m .value) (length (now (table .entry))) (at (now (table .entry))))) n (at (now (buf .entry))))) ⌝ }
 {
+    // To a single place nothing is done.
     let h = buf.len() / 2;
     if 0 < h {
         first_stage(buf, table, m, stride, h);
-        by_halves(&mut buf[..h], table, m, stride + stride);
-        by_halves(&mut buf[h..], table, m, stride + stride);
+        if 1 < h {
+            by_halves(&mut buf[..h], table, m, stride + stride);
+            by_halves(&mut buf[h..], table, m, stride + stride);
+        }
     }
 }
 

@@ -17,7 +17,7 @@ use Rattle.points.specs.declared.Point.{Point}
 use Rattle.points.specs.Interleaved.{point, points, interleaved}
 use Rattle.points.specs.Rounding.{half-up}
 use Rattle.points.specs.Steps.{rounded}
-use Rattle.runs.proofs.ByHalves.{Halved, halved, Halfway, halfway-none, halfway-next, halfway-all, halves-one}
+use Rattle.runs.proofs.ByHalves.{Halved, halved, Halfway, halfway-none, halfway-next, halfway-two, halfway-all, halves-one}
 use Rattle.scan_stages.specs.Scans.{Halving}
 use Rattle.scan_stages.proofs.Buffers.{origin, Whole, Made, made, points-hold, points-read, interleaved-points, lent-whole, lent-read, points-back, back-whole}
 use Rattle.scan_stages.proofs.Sizes.{lent-scanned, stage-each, butterfly-tabled}
@@ -107,3 +107,7 @@ reached-one w l n e none =
     let whole : Whole l (2 ^ n) = record { long = e } in
     let long : length (points l) ≡ 2 ^ n = points-hold whole .long in
     interleaved-points whole (holds (rw (long, points-read whole) at (halves-one origin w (points l) n long (omega arith))))
+
+-- Two points: their halves are a single point each.
+pub reached-two : {c h : ℕ} {t l₀ l : List ℤ} → Reached c t l₀ h 0 l → h ≡ 1 → Reached c t l₀ h (h + h) l
+reached-two r one = record { whole = r .whole; halfway = halfway-two (r .halfway) one }

@@ -15,11 +15,13 @@ pub fn by_halves(buf: &mut [i32], table: &[i32], stride: usize)
     ensures { λ _. ⌜ ((n : ℕ) → length (now (buf .entry)) ≡ 2 ^ n + 2 ^ n → now (buf .exit) ≡ interleaved (2 ^ n)
         (halves (strided stride (rounded half-up (point (now (table .entry))))) n (point (now (buf .entry))))) ⌝ }
 {
-    // A half has h numbers, h / 2 points.
+    // A half has h numbers, h / 2 points; to a single point nothing is done.
     let h = buf.len() / 2;
     if 1 < h {
         scan_stages::block(buf, table, stride, h / 2);
-        by_halves(&mut buf[..h], table, stride + stride);
-        by_halves(&mut buf[h..], table, stride + stride);
+        if 2 < h {
+            by_halves(&mut buf[..h], table, stride + stride);
+            by_halves(&mut buf[h..], table, stride + stride);
+        }
     }
 }

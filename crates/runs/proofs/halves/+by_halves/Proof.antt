@@ -12,7 +12,7 @@ use Rattle.answer.specs.Lists.{at}
 use Rattle.fourier.specs.Numbers.{frequency-mod}
 use Rattle.butterflies.specs.declared.Way.the-variants.{Frequency}
 use Rattle.runs.proofs.halves.first_stage.Reads as first-stage-reads
-use Rattle.runs.proofs.ByHalves.{Halved, halved, Halfway, halfway-none, halfway-long, halfway-next, halfway-all, half-asked, halves-one}
+use Rattle.runs.proofs.ByHalves.{Halved, halved, Halfway, halfway-none, halfway-long, halfway-next, halfway-two, halfway-all, half-asked, halves-one}
 use Rattle.runs.proofs.halves.by_halves.Reads as reads
 use Rattle.runs.proofs.halves.by_halves.Kinds as kinds
 use Rattle.runs.proofs.halves.+by_halves.Lts-by_halves as lts
@@ -45,7 +45,7 @@ module _ (t : ℕ) where
 
   -- In front of the second.
   abbrev stage-of : lts.After-by-halves claims pre reads.Post → lts.After-first-stage claims pre reads.Post
-  stage-of c = c .before .before .before .before
+  stage-of c = c .before .before .before .before .before
 
   abbrev back : lts.After-by-halves claims pre reads.Post → List ℕ
   back c = let b = stage-of c in c .by-halves .last .0 ++ drop (half (b .before .before)) (b .first-stage .last .0)
@@ -63,17 +63,17 @@ module _ (t : ℕ) where
   first-stage-requires c κs = let s = c .before .before .before .before in let k = sizes (c .before) in (s .pre .1 .0, (k .whole, (s .pre .1 .1 .1 .0, k .table)))
 
   slice-relend-prefix-by-halves : lts.Need-slice-relend-prefix-by-halves claims pre reads.Post
-  slice-relend-prefix-by-halves c = let b = c .before .before in omega (arith, halfway-long (begun b) (sizes (b .before .before)))
+  slice-relend-prefix-by-halves c = let b = c .before .before .before in omega (arith, halfway-long (begun b) (sizes (b .before .before)))
 
   slice-aggregate-by-halves : lts.Need-slice-aggregate-by-halves claims pre reads.Post
-  slice-aggregate-by-halves c = let b = c .before .before .before in sym (length-take-le _ _ (omega (arith, halfway-long (begun b) (sizes (b .before .before)))))
+  slice-aggregate-by-halves c = let b = c .before .before .before .before in sym (length-take-le _ _ (omega (arith, halfway-long (begun b) (sizes (b .before .before)))))
 
   add-by-halves : lts.Need-add-by-halves claims pre reads.Post
-  add-by-halves c = let k = sizes (c .before .before .before .before .before) in omega arith
+  add-by-halves c = let k = sizes (c .before .before .before .before .before .before) in omega arith
 
   by-halves-requires : lts.Need-by-halves-requires claims pre reads.Post
   by-halves-requires c κs =
-      let b = c .before .before .before in
+      let b = c .before .before .before .before in
       let s = b .before .before .before .before .before in
       let k = sizes (b .before .before) in
       let asked = half-asked Frequency {m = s .args .m .value} {t = s .args .table .now} (s .pre .1 .0) k (begun b) (half (b .before .before)) refl (omega arith) in
@@ -122,8 +122,23 @@ module _ (t : ℕ) where
       let b = stage-of (c .before .before .before .before .before .before) in
       halfway-all (ended (c .before .before)) (sizes (b .before .before) .whole) (b .before .before .if1 .taken)
 
+  -- Two places: nothing is left to do.
+  abbrev stage-before : lts.Else2 claims pre reads.Post → lts.After-first-stage claims pre reads.Post
+  stage-before c = c .before .before .before
+
+  two : (c : lts.Else2 claims pre reads.Post) → (let b = stage-before c in Reached (b .before .before) (half (b .before .before) + half (b .before .before)) (b .first-stage .last .0))
+  two c = let b = stage-before c in halfway-two (begun b) (omega (arith, c .if2 .left, b .before .before .if1 .taken))
+
+  same-length-2 : lts.Need-same-length-2 claims pre reads.Post
+  same-length-2 c = let k = sizes (stage-before c .before .before) in halfway-long (two c) k ∙ sym (k .whole)
+
   returns-2 : lts.Need-returns-2 claims pre reads.Post
-  returns-2 c = λ n e. halves-one 0 _ _ n e (c .if1 .left)
+  returns-2 c =
+      let b = stage-before c in
+      halfway-all (two c) (sizes (b .before .before) .whole) (b .before .before .if1 .taken)
+
+  returns-3 : lts.Need-returns-3 claims pre reads.Post
+  returns-3 c = λ n e. halves-one 0 _ _ n e (c .if1 .left)
 
 pub +by-halves-spec : {M : Type 1} → statement M
 +by-halves-spec = close μ λ t. lts.spec (claims t) (pre t) reads.Post
@@ -140,4 +155,6 @@ pub +by-halves-spec : {M : Type 1} → statement M
     (by-halves-requires-2 t)
     (same-length t)
     (returns t)
+    (same-length-2 t)
     (returns-2 t)
+    (returns-3 t)

@@ -10,7 +10,7 @@ use borrow.Rule.Slice.PartMut.{putMid}
 use borrow.Fn.Kinds.{In}
 use borrow.Fn.PlainCycle.{Measures, is, falls, and}
 use Rattle.scan_stages.proofs.Sizes.{scanned-most}
-use Rattle.scans.proofs.ByHalves.{Sizes, sizes, Reached, reached-none, lent-long, half-lent, reached-next, reached-all, reached-one}
+use Rattle.scans.proofs.ByHalves.{Sizes, sizes, Reached, reached-none, lent-long, half-lent, reached-next, reached-all, reached-one, reached-two}
 use Rattle.scan_stages.proofs.block.Reads as block-reads
 use Rattle.scans.proofs.halves.by_halves.Reads as reads
 use Rattle.scans.proofs.halves.by_halves.Kinds as kinds
@@ -47,7 +47,7 @@ module _ (t : ℕ) where
 
   -- In front of the second.
   abbrev block-of : lts.After-by-halves claims pre reads.Post → lts.After-block claims pre reads.Post
-  block-of c = c .before .before .before
+  block-of c = c .before .before .before .before
 
   abbrev start : lts.After-by-halves claims pre reads.Post → ℕ
   start c = length (block-of c .before .before .before .args .buf .now) / 2
@@ -74,17 +74,17 @@ module _ (t : ℕ) where
       (scanned-most (s .pre .1 .past) (s .pre .1 .scanned) (omega (arith, s .pre .1 .few)), (omega (arith, k .whole, s .pre .1 .power), (s .pre .1 .some, k .table)))
 
   slice-relend-prefix-by-halves : lts.Need-slice-relend-prefix-by-halves claims pre reads.Post
-  slice-relend-prefix-by-halves c = let b = c .before in omega (arith, first-long b)
+  slice-relend-prefix-by-halves c = let b = c .before .before in omega (arith, first-long b)
 
   slice-aggregate-by-halves : lts.Need-slice-aggregate-by-halves claims pre reads.Post
-  slice-aggregate-by-halves c = let b = c .before .before in sym (length-take-le _ _ (omega (arith, first-long b)))
+  slice-aggregate-by-halves c = let b = c .before .before .before in sym (length-take-le _ _ (omega (arith, first-long b)))
 
   add-by-halves : lts.Need-add-by-halves claims pre reads.Post
-  add-by-halves c = let k = split (c .before .before .before .before) in omega arith
+  add-by-halves c = let k = split (c .before .before .before .before .before) in omega arith
 
   by-halves-requires : lts.Need-by-halves-requires claims pre reads.Post
   by-halves-requires c κs =
-      let b = c .before .before in
+      let b = c .before .before .before in
       let s = b .before .before .before in
       let k = split (b .before .before) in
       let size = length (s .args .buf .now) / 2 in
@@ -135,8 +135,23 @@ module _ (t : ℕ) where
       let b = block-of (c .before .before .before .before) in
       reached-all (ended (c .before)) (split (b .before .before))
 
+  -- Two points: nothing is left to do.
+  two : (c : lts.Else2 claims pre reads.Post) → (let b = c .before .before in At (b .before .before) (half (b .before .before) + half (b .before .before)) (b .block .last .0))
+  two c =
+      let b = c .before .before in
+      let k = split (b .before .before) in
+      reached-two (begun b) (omega (arith, k .whole, c .if2 .left, b .before .before .if1 .taken))
+
+  same-length-2 : lts.Need-same-length-2 claims pre reads.Post
+  same-length-2 c =
+      let b = c .before .before in
+      omega (arith, first-long b, b .before .before .before .pre .1 .power)
+
   returns-2 : lts.Need-returns-2 claims pre reads.Post
-  returns-2 c = λ n e. reached-one _ _ n e (c .if1 .left)
+  returns-2 c = reached-all (two c) (split (c .before .before .before .before))
+
+  returns-3 : lts.Need-returns-3 claims pre reads.Post
+  returns-3 c = λ n e. reached-one _ _ n e (c .if1 .left)
 
 pub +by-halves-spec : {M : Type 1} → statement M
 +by-halves-spec = close μ λ t. lts.spec (claims t) (pre t) reads.Post
@@ -153,4 +168,6 @@ pub +by-halves-spec : {M : Type 1} → statement M
     (by-halves-requires-2 t)
     (same-length t)
     (returns t)
+    (same-length-2 t)
     (returns-2 t)
+    (returns-3 t)
