@@ -43,6 +43,7 @@ unpack() {
         fi
     done
     echo
+    [ "$unit" -eq 1 ] || { echo 'numbers.sh: the last number is cut' >&2; exit 1; }
 }
 
 case $1 in

@@ -5,6 +5,7 @@
 cd "$(dirname "$0")/.." || exit 2
 made=$(mktemp -d) || exit 2
 trap 'rm -rf "$made"' EXIT
+trap 'exit 130' INT TERM
 ls crates/*/must-fail/*.edit | sed 's,crates/\(.*\)/must-fail/\(.*\)\.edit,\1/\2,' | sort >"$made/there"
 sed -n '/^## Wrong programs/,/^## Kernel/ s/^|[^|]*|\([^|]*\)|[^|]*|$/\1/p' docs/CONTRACTS.md | tr '`' '\n' |
     awk '/^[a-z0-9_]+\/[a-z0-9-]+$/ { split($0, part, "/"); print; next } /^[a-z0-9-]+$/ && part[1] { print part[1] "/" $0 }' | sort -u >"$made/named"

@@ -12,6 +12,10 @@ esac
 numbers='0 1 127 128 16383 16384 4294967295'
 back=$(echo "$numbers" 008 | sh examples/numbers.sh pack | sh examples/numbers.sh unpack)
 [ "$back" = "$numbers 8" ] || { echo "numbers.sh gave back: $back"; exit 1; }
+if printf '\200' | sh examples/numbers.sh unpack >/dev/null 2>&1; then
+    echo 'numbers.sh took a number that is cut'
+    exit 1
+fi
 for word in 4294967296 99999999999 x -1 1.5; do
     if echo "$word" | sh examples/numbers.sh pack >/dev/null 2>&1; then
         echo "numbers.sh took '$word'"

@@ -1,14 +1,16 @@
 #!/bin/sh
-# The header stands alone, in C and in C++; its examples, each as it is written there, and document 01's bench values hold through the calls.
+# The header stands alone, in C and in C++, and the picture's program compiles; its examples, each as it is written there, and document 01's bench values hold through the calls.
 cd "$(dirname "$0")/.." || exit 2
 made=$(mktemp -d) || exit 2
 trap 'rm -rf "$made"' EXIT
+trap 'exit 130' INT TERM
 . tests/meter/build.sh
 if command -v g++ >/dev/null; then
     g++ -Wall -Wextra -Werror -fsyntax-only -x c++ include/fandrute.h || exit 1
 else
     echo 'there is no g++: the header is not tried in C++'
 fi
+cc -std=c11 -Wall -Wextra -Werror -fsyntax-only examples/story.c || exit 1
 sed -n '/^#ifndef/,$ s/^ \*     \([^/]*;\).*/\1/p' include/fandrute.h >"$made/examples"
 calls=$(grep -c '^fdr_[a-z]* *fdr_[a-z_]*(' include/fandrute.h)
 used=$(grep -o 'fdr_[a-z]*_[a-z]*(' "$made/examples" | sort -u | grep -c .)

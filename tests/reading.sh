@@ -3,6 +3,7 @@
 cd "$(dirname "$0")/.." || exit 2
 made=$(mktemp -d) || exit 2
 trap 'rm -rf "$made"' EXIT
+trap 'exit 130' INT TERM
 . tests/meter/build.sh
 compile "$made/calls" tests/meter/calls.c || exit 1
 told=$(rt check dft 2>&1) || { echo "$told"; exit 1; }

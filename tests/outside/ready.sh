@@ -2,6 +2,7 @@
 . examples/kit.sh
 room=$(mktemp -d) || exit 2
 trap 'rm -rf "$room"' EXIT
+trap 'exit 130' INT TERM
 
 need() { # PACKAGE..: installs the Debian packages that are missing
     dpkg -s "$@" >"$room/packages" 2>&1 && return
