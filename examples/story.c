@@ -133,7 +133,7 @@ int main(void) {
     curve(right, most, 345, 210, "stroke=\"#c9b29b\" stroke-width=\"1.5\" stroke-dasharray=\"5 4\"");
     curve(wrong, most, 345, 210, "stroke=\"#b3261e\" stroke-width=\"2\"");
     char words[128];
-    snprintf(words, sizeof words, "fdr_fixed_transform now answers %u at place %zu and changes nothing", answer.number, answer.place);
+    snprintf(words, sizeof words, "fdr_fixed_transform answers %u at place %zu and changes nothing", answer.number, answer.place);
     text(LEFT, 615, "font-size=\"17\" font-weight=\"bold\" fill=\"#b3261e\"", words);
     printf("</svg>\n");
     return 0;

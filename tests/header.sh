@@ -1,5 +1,6 @@
 #!/bin/sh
-# The header stands alone, in C and in C++, and the picture's program compiles; its examples, each as it is written there, and document 01's bench values hold through the calls.
+# The header stands alone, in C and in C++, and the picture's program compiles; the header's examples, each as it is written there, README's
+# program and document 01's bench values hold through the calls.
 cd "$(dirname "$0")/.." || exit 2
 made=$(mktemp -d) || exit 2
 trap 'rm -rf "$made"' EXIT
@@ -18,5 +19,7 @@ used=$(grep -o 'fdr_[a-z]*_[a-z]*(' "$made/examples" | sort -u | grep -c .)
 while read -r line; do
     grep -qF "$line" tests/meter/values.c || { echo "tests/meter/values.c lacks the header's example: $line"; exit 1; }
 done <"$made/examples"
+sed -n '/^    #include "fandrute.h"/,/^    }$/ s/^    //p' README.md >"$made/readme.c"
+compile "$made/readme" "$made/readme.c" && $emulator "$made/readme" || { echo "README.md's program failed"; exit 1; }
 compile "$made/values" tests/meter/values.c || exit 1
 $emulator "$made/values"

@@ -1,4 +1,4 @@
-// Whole schedules over residues, stage after stage; single stages; the inverse.
+// Schedules 1, 3 and 4 over residues, a single stage of schedule 1, the inverse.
 mod columns;
 mod halves;
 mod inverse;
