@@ -15,10 +15,10 @@ use Rattle.points.specs.declared.Point.{Point}
 use Rattle.rules.specs.Pairs.{sized, near, follows}
 use Rattle.tables.specs.Rules.{half-turn, entry, linked, rule, Accepted, entry-pair, entry-closing, same-rule, rule-parts}
 
--- What is near 16,384 a, for an a that is not negative, is far from 16,384 times -16,384.
-far : (off a : ℤ) → nonNeg a ≡ true → near (off -ℤ pos 16384 *ℤ a) ≡ true → near (off -ℤ pos 16384 *ℤ negsuc 16383) ≡ false
+-- What is near 16,384 a, for an a that is not negative, is far from 16,384 times -16,384, the real part of T[N/2].
+far : (off a : ℤ) → nonNeg a ≡ true → near (off -ℤ pos 16384 *ℤ a) ≡ true → near (off -ℤ pos 16384 *ℤ half-turn .re) ≡ false
 far off (pos a) some e =
-    let y = pos 16384 *ℤ negsuc 16383 in
+    let y = pos 16384 *ℤ half-turn .re in
     let z = pos 16384 *ℤ pos a in
     let apart : off -ℤ y -ℤ (off -ℤ z) ≡ z -ℤ y = ring integers (off ∷ y ∷ z ∷ []) (v 0 :- v 1 :- (v 0 :- v 2)) (v 2 :- v 1) refl in
     let small = leb-true (natAbs (off -ℤ z)) 32768 e in
