@@ -1,11 +1,13 @@
 #!/bin/sh
-# The header stands alone, in C and in C++, and the picture's program compiles; the header's examples, each as it is written there, README's
-# program and document 01's bench values hold through the calls.
+# The library as a user links it. The header stands alone, in C and in C++, and the picture's program compiles; the header's examples, each as
+# it is written there, README's program and document 01's bench values hold; every call, and `dft`, answers and leaves what a plain second
+# reading of document 01 says, on fresh inputs (SEED=.. repeats a run).
 cd "$(dirname "$0")/.." || exit 2
 made=$(mktemp -d) || exit 2
 trap 'rm -rf "$made"' EXIT
 trap 'exit 130' INT TERM
 . tests/meter/build.sh
+
 if command -v g++ >/dev/null; then
     g++ -Wall -Wextra -Werror -fsyntax-only -x c++ include/fandrute.h || exit 1
 else
@@ -22,4 +24,11 @@ done <"$made/examples"
 sed -n '/^    #include "fandrute.h"/,/^    }$/ s/^    //p' README.md >"$made/readme.c"
 compile "$made/readme" "$made/readme.c" && $emulator "$made/readme" || { echo "README.md's program failed"; exit 1; }
 compile "$made/values" tests/meter/values.c || exit 1
-$emulator "$made/values"
+$emulator "$made/values" || exit 1
+
+compile "$made/calls" tests/meter/calls.c || exit 1
+told=$(rt check dft 2>&1) || { echo "$told"; exit 1; }
+rustc -O --edition 2021 -o "$made/reading" tests/reading/main.rs || exit 1
+"$made/reading" check || exit 1
+"$made/reading" calls $emulator "$made/calls" || exit 1
+"$made/reading" requests "$made" $loader target/bin/dft

@@ -57,5 +57,5 @@ fn seeded(compare: impl Fn(u64) -> Result<String, String>) -> Result<String, Str
     };
     println!("inputs of SEED={seed}");
     compare(seed)
-        .map_err(|report| format!("{report}\nSEED={seed} sh tests/reading.sh repeats this"))
+        .map_err(|report| format!("{report}\nSEED={seed} sh tests/calls.sh repeats this"))
 }
