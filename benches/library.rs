@@ -18,7 +18,7 @@ struct Found {
     setting: Setting,
 }
 
-#[link(name = "fandrute", kind = "static")]
+#[link(name = "meter", kind = "static")]
 extern "C" {
     fn fdr_house_row(row: u32) -> Found;
     fn fdr_modular_fill(setting: Setting, table: *mut u32, table_len: usize) -> Answer;
@@ -35,10 +35,10 @@ extern "C" {
 #[link(name = "kernels", kind = "static")]
 extern "C" {
     fn fdr_modular_kernel(
-        schedule: u32, buf: *mut u32, buf_len: usize, m: u32, table: *const u32, table_len: usize, scratch: *mut u32, scratch_len: usize, n: usize,
+        schedule: u32, buf: *mut u32, buf_len: usize, m: u32, table: *const u32, table_len: usize, n: usize, scratch: *mut u32, scratch_len: usize,
     );
     fn fdr_fixed_kernel(
-        schedule: u32, buf: *mut i32, buf_len: usize, table: *const i32, table_len: usize, scratch: *mut i32, scratch_len: usize, n: usize,
+        schedule: u32, buf: *mut i32, buf_len: usize, table: *const i32, table_len: usize, n: usize, scratch: *mut i32, scratch_len: usize,
     );
 }
 
@@ -72,7 +72,7 @@ pub fn fixed_table(len: usize) -> Vec<i32> {
 
 pub fn modular_kernel(schedule: u32, buf: &mut [u32], m: u32, table: &[u32], scratch: &mut [u32]) {
     let n = buf.len().trailing_zeros() as usize;
-    unsafe { fdr_modular_kernel(schedule, buf.as_mut_ptr(), buf.len(), m, table.as_ptr(), table.len(), scratch.as_mut_ptr(), scratch.len(), n) }
+    unsafe { fdr_modular_kernel(schedule, buf.as_mut_ptr(), buf.len(), m, table.as_ptr(), table.len(), n, scratch.as_mut_ptr(), scratch.len()) }
 }
 
 pub fn modular_call(schedule: u32, buf: &mut [u32], m: u32, table: &[u32], scratch: &mut [u32]) {
@@ -81,7 +81,7 @@ pub fn modular_call(schedule: u32, buf: &mut [u32], m: u32, table: &[u32], scrat
 
 pub fn fixed_kernel(schedule: u32, buf: &mut [i32], table: &[i32], scratch: &mut [i32]) {
     let n = table.len().trailing_zeros() as usize;
-    unsafe { fdr_fixed_kernel(schedule, buf.as_mut_ptr(), buf.len(), table.as_ptr(), table.len(), scratch.as_mut_ptr(), scratch.len(), n) }
+    unsafe { fdr_fixed_kernel(schedule, buf.as_mut_ptr(), buf.len(), table.as_ptr(), table.len(), n, scratch.as_mut_ptr(), scratch.len()) }
 }
 
 pub fn fixed_call(schedule: u32, buf: &mut [i32], table: &[i32], scratch: &mut [i32]) {

@@ -6,7 +6,7 @@ cd "$(dirname "$0")/.." || exit 2
 made=$(mktemp -d) || exit 2
 trap 'rm -rf "$made"' EXIT
 trap 'exit 130' INT TERM
-. tests/library/build.sh
+. tests/meter/build.sh
 
 if command -v g++ >/dev/null; then
     g++ -Wall -Wextra -Werror -fsyntax-only -x c++ include/fandrute.h || exit 1
@@ -19,16 +19,16 @@ calls=$(grep -c '^fdr_[a-z]* *fdr_[a-z_]*(' include/fandrute.h)
 used=$(grep -o 'fdr_[a-z]*_[a-z]*(' "$made/examples" | sort -u | grep -c .)
 [ "$calls" -eq "$used" ] || { echo "include/fandrute.h has $calls calls and examples of $used"; exit 1; }
 while read -r line; do
-    grep -qF "$line" tests/library/values.c || { echo "tests/library/values.c lacks the header's example: $line"; exit 1; }
+    grep -qF "$line" tests/meter/values.c || { echo "tests/meter/values.c lacks the header's example: $line"; exit 1; }
 done <"$made/examples"
 sed -n '/^    #include "fandrute.h"/,/^    }$/ s/^    //p' README.md >"$made/readme.c"
 compile "$made/readme" "$made/readme.c" && $emulator "$made/readme" || { echo "README.md's program failed"; exit 1; }
-compile "$made/values" tests/library/values.c || exit 1
+compile "$made/values" tests/meter/values.c || exit 1
 $emulator "$made/values" || exit 1
 
-compile "$made/calls" tests/library/calls.c || exit 1
+compile "$made/calls" tests/meter/calls.c || exit 1
 told=$(rt check dft 2>&1) || { echo "$told"; exit 1; }
-rustc -O --edition 2021 -o "$made/second" tests/second/main.rs || exit 1
-"$made/second" check || exit 1
-"$made/second" calls $emulator "$made/calls" || exit 1
-"$made/second" requests "$made" $loader target/bin/dft
+rustc -O --edition 2021 -o "$made/reading" tests/reading/main.rs || exit 1
+"$made/reading" check || exit 1
+"$made/reading" calls $emulator "$made/calls" || exit 1
+"$made/reading" requests "$made" $loader target/bin/dft

@@ -6,8 +6,8 @@ cd "$(dirname "$0")/../.." || exit 2
 [ "$(uname -m)" = x86_64 ] || { echo "$0: the library is for x86-64" >&2; exit 2; }
 . tests/outside/ready.sh
 need g++ libgmp-dev python3
-archive fandrute
-build distance target/staticlib/libfandrute.a -lgmpxx -lgmp
+archive meter
+build distance target/staticlib/libmeter.a -lgmpxx -lgmp
 seed=${1:-1} effort=${2:-2}
 echo "seed $seed, effort $effort"
 "$room/distance" "$seed" "$effort" "$room/made" || exit 1

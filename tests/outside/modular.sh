@@ -5,8 +5,8 @@ cd "$(dirname "$0")/../.." || exit 2
 [ "$(uname -m)" = x86_64 ] || { echo "$0: the library is for x86-64" >&2; exit 2; }
 . tests/outside/ready.sh
 need g++ libflint-dev pari-gp
-archive fandrute
-build modular target/staticlib/libfandrute.a -lflint
+archive meter
+build modular target/staticlib/libmeter.a -lflint
 seed=${1:-1}
 echo "seed $seed"
 pari() { # FILE DEFINITION

@@ -6,8 +6,8 @@ cd "$(dirname "$0")/../.." || exit 2
 [ "$(uname -m)" = x86_64 ] || { echo "$0: the library is for x86-64" >&2; exit 2; }
 . tests/outside/ready.sh
 need g++ libfftw3-dev
-archive fandrute
-build spectra target/staticlib/libfandrute.a -lfftw3
+archive meter
+build spectra target/staticlib/libmeter.a -lfftw3
 seed=${1:-1}
 echo "seed $seed"
 "$room/spectra" "$seed"

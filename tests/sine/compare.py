@@ -1,4 +1,4 @@
-"""Compares the sine table of crates/fixed_sine with the whole numbers nearest to 16,384 times cosine and sine of 2 pi i / 4,096.
+"""Compares the sine table of crates/sine with the whole numbers nearest to 16,384 times cosine and sine of 2 pi i / 4,096.
 
 Run in the repository's root. Prints the smallest distance of a value to a tie, and ends with status 1 at the first difference.
 """
@@ -6,7 +6,7 @@ import re
 import sys
 from decimal import Decimal, ROUND_FLOOR, getcontext
 
-SOURCE = "crates/fixed_sine/src/constant.rt"
+SOURCE = "crates/sine/src/constant.rt"
 POINTS = 4096
 UNIT = 16384
 DIGITS = 60

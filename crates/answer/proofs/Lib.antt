@@ -1,3 +1,6 @@
 -- Laws that serve proofs of code.
 pub mod Powers
-pub mod Tests
+pub mod Writes
+pub mod Parts
+pub mod Pairs
+pub mod Swaps

@@ -1,7 +1,6 @@
--- What every call needs: its answer, verdicts as lists of refusals, the search for a bad place, the permitted lengths.
+-- What every call needs: its answer, the search for a bad place, the permitted lengths, lists by their places.
 pub mod Choice
-pub mod Verdict
-pub mod Refuted
 pub mod Search
 pub mod Lengths
-pub mod Schedules
+pub mod Cases
+pub mod Lists

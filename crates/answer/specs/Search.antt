@@ -1,11 +1,10 @@
--- The search for the first bad place, and what its answer means.
+-- The search for the first bad place, and what its answer says.
 use Prim.Native.Nat.{ℕ, zero, suc, ◌+◌, ◌<◌, ◌≤◌}
 use Rattle.std.specs.Prelude.{◌≡◌, Bool, cond}
 use Rattle.std.proofs.Math.Path.{refl}
 use Rattle.std.proofs.Math.Bool.{true, false}
 use Rattle.std.proofs.Math.Logic.{⊎_elim}
-use Rattle.std.proofs.Common.{eq-or-lt_of_le, arith}
-use Rattle.lists.specs.Passed.{Passed}
+use Rattle.std.proofs.Common.{eq-or-lt_of_le, arith, below_more}
 use Rattle.answer.specs.declared.Found.{Found}
 use Rattle.answer.specs.declared.Found.TheVariants.{At, Nowhere}
 
@@ -14,11 +13,22 @@ unfoldable pub first : (ℕ → Bool) → ℕ → ℕ → Found
 first ok i zero = Nowhere
 first ok i (suc k) = cond (ok i) (first ok (suc i) k) (At i)
 
+-- The test holds at each of the places 0, .., k - 1.
+pub record Passed (ok : ℕ → Bool) (k : ℕ) : Type 0 where
+  pub each : (q : ℕ) → q < k → ok q ≡ true
+
 -- p is the first of the places 0, .., k - 1 at which the test fails.
 pub record FailsFirst (ok : ℕ → Bool) (k p : ℕ) : Type 0 where
   pub within : p < k
   pub fails : ok p ≡ false
   pub before : Passed ok p
+
+-- How a loop over the places keeps what it has seen.
+pub passed_none : (ok : ℕ → Bool) → Passed ok 0
+passed_none ok = record { each = λ q h. absurd (omega arith) }
+
+pub passed_more : {ok : ℕ → Bool} {i : ℕ} → Passed ok i → ok i ≡ true → Passed ok (i + 1)
+passed_more {ok} {i} r e = record { each = below_more (λ q. ok q ≡ true) i r.each e }
 
 -- The meaning of the answer, from any place on.
 module _ (ok : ℕ → Bool) where
@@ -34,21 +44,21 @@ module _ (ok : ℕ → Bool) where
       ⊎_elim (λ h. let here : ok i ≡ false = rw h e in rw here (rw h refl))
       (λ h. rw (all i (omega arith) h) (failed_from _ k p h (omega arith) e (λ q c d. all q (omega arith) d))) (eq-or-lt_of_le a)
 
-  -- What an answer means of the places i, .., i + k - 1.
-  abbrev Means : ℕ → ℕ → Found → Type 0
-  Means i k (At p) = (i ≤ p) × (p < i + k) × (ok p ≡ false) × ((q : ℕ) → i ≤ q → q < p → ok q ≡ true)
-  Means i k Nowhere = (q : ℕ) → i ≤ q → q < i + k → ok q ≡ true
+  -- What an answer says of the places i, .., i + k - 1.
+  abbrev Says : ℕ → ℕ → Found → Type 0
+  Says i k (At p) = (i ≤ p) × (p < i + k) × (ok p ≡ false) × ((q : ℕ) → i ≤ q → q < p → ok q ≡ true)
+  Says i k Nowhere = (q : ℕ) → i ≤ q → q < i + k → ok q ≡ true
 
-  means : (i k : ℕ) → Means i k (first ok i k)
+  says : (i k : ℕ) → Says i k (first ok i k)
   unfolding first
-  means i zero = λ q a b. absurd (omega arith)
-  means i (suc k) = go (ok i) refl (first ok (suc i) k) (means (suc i) k)
+  says i zero = λ q a b. absurd (omega arith)
+  says i (suc k) = go (ok i) refl (first ok (suc i) k) (says (suc i) k)
     where
       -- What holds at i and behind it.
       both : {n : ℕ} → ok i ≡ true → ((q : ℕ) → suc i ≤ q → q < n → ok q ≡ true) → (q : ℕ) → i ≤ q → q < n → ok q ≡ true
       both e all q a b = ⊎_elim (λ h. rw (← h) e) (λ h. all q h b) (eq-or-lt_of_le a)
 
-      go : (t : Bool) → ok i ≡ t → (f : Found) → Means (suc i) k f → Means i (suc k) (cond t f (At i))
+      go : (t : Bool) → ok i ≡ t → (f : Found) → Says (suc i) k f → Says i (suc k) (cond t f (At i))
       go true e (At p) s = (omega arith, omega arith, s.2, both e s.3)
       go true e Nowhere s = both e (λ q a b. s q a (omega arith))
       go false e f s = (omega arith, omega arith, e, λ q a b. absurd (omega arith))
@@ -58,7 +68,7 @@ pub first_passed : {ok : ℕ → Bool} {k : ℕ} → Passed ok k → first ok 0 
 first_passed {ok} {k} r = passed_from ok 0 k (λ q a b. r.each q (omega arith))
 
 pub nowhere_passed : (ok : ℕ → Bool) (k : ℕ) → first ok 0 k ≡ Nowhere → Passed ok k
-nowhere_passed ok k e = record { each = λ q h. (rw e at (means ok 0 k)) q (omega arith) (omega arith) }
+nowhere_passed ok k e = record { each = λ q h. (rw e at (says ok 0 k)) q (omega arith) (omega arith) }
 
 -- The answer is a place exactly when that is the first at which the test fails.
 pub first_failed : {ok : ℕ → Bool} {k p : ℕ} → FailsFirst ok k p → first ok 0 k ≡ At p
@@ -66,5 +76,5 @@ first_failed {ok} {k} {p} r = failed_from ok 0 k p (omega arith) (omega (arith, 
 
 pub at_failed : (ok : ℕ → Bool) (k p : ℕ) → first ok 0 k ≡ At p → FailsFirst ok k p
 at_failed ok k p e =
-    let s = rw e at (means ok 0 k) in
+    let s = rw e at (says ok 0 k) in
     record { within = omega arith; fails = s.2; before = record { each = λ q h. s.3 q (omega arith) h } }

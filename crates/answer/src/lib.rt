@@ -1,7 +1,6 @@
 // What every public call needs: the answer it gives, the mark of a search, and the permitted lengths.
 ghost use Rattle.std.specs.Prelude.{◌≡◌};
 ghost use Rattle.answer.specs.Lengths.{log_of, table_log};
-ghost use Rattle.answer.specs.Schedules.{offers, scratch_fits};
 
 // What a call answers: document 01's number and place.
 #[repr(C)]
@@ -92,27 +91,4 @@ pub fn table_log(len: usize) -> usize
         return 0;
     }
     log_of(len + len)
-}
-
-// Whether a call that offers the schedules 1 to `last` offers this one.
-pub fn offered(last: u32, schedule: u32) -> bool
-    ensures { result ≡ offers last schedule }
-{
-    if schedule < 1 {
-        return false;
-    }
-    schedule <= last
-}
-
-// Whether scratch is as long as the data, where it counts for the schedule.
-pub fn scratch_fits(schedule: u32, scratch: usize, len: usize) -> bool
-    ensures { result ≡ scratch_fits schedule scratch len }
-{
-    if schedule == 2 {
-        return scratch == len;
-    }
-    if schedule == 5 {
-        return scratch == len;
-    }
-    true
 }

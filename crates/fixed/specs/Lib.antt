@@ -1,5 +1,3 @@
 -- The public calls in fixed point: their outcomes, and what follows from them.
 pub mod Outcomes
-pub mod Tables
 pub mod Theorems
-pub mod Refuted

@@ -1,33 +1,30 @@
--- What a caller can cite of the outcomes of transform and reverse in fixed point; of accept and fill see `Tables`.
-use Rattle.std.specs.Prelude.{ℕ, zero, suc, ◌+◌, ◌-◌, ◌/◌, ◌^◌, ◌<◌, ◌≤◌, ◌≡◌, refl, true, List, ℤ, length, take}
-use Rattle.std.proofs.Common.{sym, ap, ◌∙◌, subst, arith, lt-ltb, eq-eqb}
+-- What a caller can cite of the outcomes of the calls in fixed point. Those of accept and fill stand in `tables` and `sine`: a filled table is
+-- accepted, `filled_accepted`, and a longer table's beginning is not, `beginning_refused`.
+use Rattle.std.specs.Prelude.{ℕ, zero, suc, ◌+◌, ◌-◌, ◌/◌, ◌^◌, ◌<◌, ◌≤◌, ◌≡◌, refl, true, List, eqb, ℤ, length, take}
+use Rattle.std.proofs.Common.{sym, ap, ◌∙◌, subst, ⊎_elim, arith, lt-ltb, eq-eqb}
 use Rattle.std.proofs.lemmas.Bool.{false≢true}
 use Rattle.answer.specs.declared.Answer.{Answer}
-use Rattle.answer.specs.Choice.{refuse_at, done}
-use Rattle.lists.specs.Lists.{length-tabulate}
-use Rattle.lists.specs.Passed.{Passed}
-use Rattle.answer.specs.Search.{FailsFirst, first_passed, at_failed}
-use Rattle.answer.specs.Schedules.{offers, offers_range, scratch_fits}
-use Rattle.answer.specs.Verdict.{verdict, Passes, did_pass, did_leave, did_say}
+use Rattle.answer.specs.Choice.{refuse, refuse_at, done, judged_at, unless-done, done_left, unless_past, judged_past, judged_here, judged-number}
+use Rattle.answer.specs.Lists.{length-tabulate}
+use Rattle.answer.specs.Search.{Passed, FailsFirst, first_passed, at_failed}
 use Rattle.fourier.specs.Array.{frequency}
 use Rattle.fourier.specs.Embeddings.{straight}
 use Rattle.fourier.specs.Leaves.{Leaves, leaves1, leaves2, leaves3, agree}
 use Rattle.fourier.specs.Reverse.{rev, rev_lt, rev-rev}
-use Rattle.fourier.specs.Schedules.{by_schedule}
-use Rattle.fixed_numbers.specs.declared.Point.{Point}
-use Rattle.loops.specs.Sizes.{PairLength}
-use Rattle.fixed_numbers.specs.Interleaved.{point, interleaved_by, point-interleaved}
-use Rattle.fixed_numbers.specs.Rounding.{half_up, half_up_half}
-use Rattle.fixed_numbers.specs.Steps.{rounded, unrounded, Sized}
-use Rattle.fixed_numbers.specs.Distance.{Near, results_near}
-use Rattle.fixed_numbers.specs.Growth.{results_sized}
-use Rattle.fixed_tables.specs.Rules.{rule, Accepted}
-use Rattle.fixed_sine.specs.Sine.{sine_table, sine_table-length}
-use Rattle.fixed_sine.specs.Beginnings.{beginning_bad, beginning_length}
-use Rattle.fixed_judgement.specs.Verdicts.{points_log, permitted_length, ranged, transform_lines}
-use Rattle.fixed.specs.Outcomes.{FillOutcome, transformed, TransformOutcome, reversed, ReverseOutcome}
-use Rattle.fixed.specs.Tables.{sine_table-done, filled}
-use Rattle.fixed_judgement.specs.Ready.{permitted_points, power_points, Ready, transform_ready, ready_turns}
+use Rattle.points.specs.declared.Point.{Point}
+use Rattle.points.specs.Interleaved.{point, interleaved_by, point-interleaved}
+use Rattle.points.specs.Rounding.{half_up, half_up_half}
+use Rattle.points.specs.Steps.{rounded, unrounded, Sized}
+use Rattle.points.specs.Distance.{Near, results_near}
+use Rattle.points.specs.Growth.{results_sized}
+use Rattle.tables.specs.Rules.{rule, Accepted, bad_pair}
+use Rattle.sine.specs.Sine.{sine_table, sine_table-length}
+use Rattle.sine.specs.Filling.{FillOutcome, sine_table-done, filled}
+use Rattle.sine.specs.Beginnings.{beginning_bad, beginning_length}
+use Rattle.fixed_judgement.specs.Verdicts.{points_log, permitted_length, ranged, bad_sample, scratch_fits, offers, transform_verdict, reverse_verdict}
+use Rattle.fixed_work.specs.Works.{by_schedule}
+use Rattle.fixed.specs.Outcomes.{transformed, TransformOutcome, reversed, ReverseOutcome}
+use Rattle.fixed_judgement.specs.Ready.{Points, permitted_points, power_points, Ready, transform_ready, ready_turns, offers_range}
 
 -- ---- the transform leaves what the schedule says, rounded
 
@@ -43,17 +40,14 @@ module _ {schedule : ℕ} {buf table scratch buf' scratch' : List ℤ} {answer :
   abbrev n : ℕ
   n = points_log (length buf)
 
-  transform_passes : (j : ℕ) → Passes (transform_lines schedule buf table (length scratch)) j
-  transform_passes = did_pass outcome.did refl passed
-
-  transform_judged : Ready buf table
-  transform_judged = transform_ready schedule buf table (length scratch) transform_passes
+  transform_judged : (offers schedule ≡ true) × (Ready buf table) × (scratch_fits schedule (length scratch) (length buf) ≡ true)
+  transform_judged = transform_ready schedule buf table (length scratch) (rw outcome.answers at passed)
 
   transform_leaves : Leaves frequency n straight (rev n) (by_schedule schedule n)
-  transform_leaves = let range = offers_range 3 schedule (transform_passes 7) in by_schedule_leaves schedule n range.0 range.1
+  transform_leaves = let range = offers_range schedule transform_judged.0 in by_schedule_leaves schedule n range.0 range.1
 
   transform_left : buf' ≡ transformed schedule buf table
-  transform_left = ap (λ l. l.0) (did_leave outcome.did passed)
+  transform_left = outcome.leaves ∙ done_left (transform_verdict schedule buf table (length scratch)) _ buf (rw outcome.answers at passed)
 
   transform_length : length buf' ≡ 2 ^ n + 2 ^ n
   transform_length = ap length transform_left ∙ length-tabulate (2 ^ n + 2 ^ n) _
@@ -65,12 +59,12 @@ module _ {schedule : ℕ} {buf table scratch buf' scratch' : List ℤ} {answer :
   pub transform_near : (p : ℕ) → p < 2 ^ n → Near n (point buf' p) (by_schedule schedule n Point (unrounded (point table)) (point buf) p)
   transform_near p h =
       subst (λ r. Near n r (by_schedule schedule n Point (unrounded (point table)) (point buf) p)) (sym (transform_point p h))
-      (results_near half_up_half transform_leaves (ready_turns transform_judged) (point buf) p h)
+      (results_near half_up_half transform_leaves (ready_turns transform_judged.1) (point buf) p h)
 
   -- Every part of every result is at most 2^22 in size.
   pub transform_sized : (p : ℕ) → p < 2 ^ n → Sized (2 ^ 22) (point buf' p)
   transform_sized p h =
-      let r = transform_judged in
+      let r = transform_judged.1 in
       rw (transform_point p h) (results_sized half_up_half r.points.few transform_leaves (ready_turns r) (point buf) (λ q l. r.sized q) p h)
 
 -- Two transforms of the same buffer, with the same table, leave the same numbers: schedules 1, 2 and 3 agree.
@@ -84,11 +78,12 @@ transform_agree {buf = buf} {table} {x = x} one passed two passed₂ =
 -- ---- the reversal undoes itself
 
 module _ {buf buf' : List ℤ} {answer : Answer} (outcome : ReverseOutcome buf answer buf') (passed : answer.number ≡ 0) where
-  reverse-points : PairLength (points_log (length buf)) (length buf)
-  reverse-points = permitted_points (length buf) (did_pass outcome.did refl passed 1)
+  reverse-points : Points (points_log (length buf)) (length buf)
+  unfolding reverse_verdict
+  reverse-points = permitted_points (length buf) (unless-done (permitted_length (length buf)) (refuse 1) done (omega arith) (rw outcome.answers at passed)).0
 
   reverse_left : buf' ≡ reversed buf
-  reverse_left = did_leave outcome.did passed
+  reverse_left = outcome.leaves ∙ done_left (reverse_verdict buf) _ buf (rw outcome.answers at passed)
 
   reverse-length : length buf' ≡ length buf
   reverse-length = ap length reverse_left ∙ length-tabulate _ _ ∙ sym reverse-points.whole
@@ -107,11 +102,25 @@ reverse-reverse {buf} {buf'} {buf''} there passed back passed₂ =
 -- ---- the place of a refusal 4 or 5 is the first at which a rule fails
 
 module _ {schedule : ℕ} {buf table scratch buf' scratch' : List ℤ} where
+  transform_past : {answer : Answer} → TransformOutcome schedule buf table scratch answer buf' scratch' → 4 ≤ answer.number → answer.number ≤ 5 →
+      judged_at 4 (bad_pair table) (judged_at 5 (bad_sample buf) done) ≡ answer
+  unfolding transform_verdict
+  transform_past outcome low high =
+      unless_past (eqb (length table) (length buf / 2)) (refuse 3) _ (λ z. omega arith)
+      (unless_past (scratch_fits schedule (length scratch) (length buf)) (refuse 6) _ (λ z. omega arith)
+      (unless_past (permitted_length (length buf)) (refuse 1) _ (λ z. omega arith)
+      (unless_past (offers schedule) (refuse 7) _ (λ z. omega arith) (sym outcome.answers))))
+
   pub transform_pair : {p : ℕ} → TransformOutcome schedule buf table scratch (refuse_at 4 p) buf' scratch' → FailsFirst (rule (length table / 2) (point table)) (suc (length table / 2)) p
-  transform_pair {p} outcome = at_failed (rule (length table / 2) (point table)) (suc (length table / 2)) p (did_say outcome.did (omega arith) refl 4)
+  transform_pair {p} outcome =
+      at_failed (rule (length table / 2) (point table)) (suc (length table / 2)) p
+      (judged_here 4 (bad_pair table) _ p (λ z. ⊎_elim (λ a. omega arith) (λ a. let k = ap (λ (b : Answer). b.number) a in omega arith) (judged-number 5 (bad_sample buf) done))
+      (transform_past outcome (omega arith) (omega arith)))
 
   pub transform_sample : {p : ℕ} → TransformOutcome schedule buf table scratch (refuse_at 5 p) buf' scratch' → FailsFirst (ranged buf) (length buf) p
-  transform_sample {p} outcome = at_failed (ranged buf) (length buf) p (did_say outcome.did (omega arith) refl 5)
+  transform_sample {p} outcome =
+      at_failed (ranged buf) (length buf) p
+      (judged_here 5 (bad_sample buf) done p (λ z. omega arith) (judged_past 4 (bad_pair table) _ (λ z. omega arith) (transform_past outcome (omega arith) (omega arith))))
 
 -- ---- nothing else is refused
 
@@ -120,13 +129,13 @@ length_permitted n some few e = rw (e, power_points n some few) (lt-ltb 0 n some
 
 -- With an accepted table whatever lies in the range is transformed.
 pub transform_done : (n : ℕ) → 1 ≤ n → n ≤ 12 → {schedule : ℕ} {buf table scratch buf' scratch' : List ℤ} {answer : Answer} →
-    offers 3 schedule ≡ true → length buf ≡ 2 ^ n + 2 ^ n → scratch_fits schedule (length scratch) (length buf) ≡ true →
+    offers schedule ≡ true → length buf ≡ 2 ^ n + 2 ^ n → scratch_fits schedule (length scratch) (length buf) ≡ true →
     length table ≡ 2 ^ n → Accepted (length table / 2) (point table) → Passed (ranged buf) (length buf) →
     TransformOutcome schedule buf table scratch answer buf' scratch' → answer ≡ done
-unfolding verdict
+unfolding transform_verdict
 transform_done n some few {schedule} {buf} {table} {scratch} offer long fits size accepted samples outcome =
     let half : length table ≡ length buf / 2 = omega arith in
-    outcome.did.gave.answers ∙ rw (offer, length_permitted n some few long, fits, eq-eqb (length table) (length buf / 2) half, first_passed accepted, first_passed samples)
+    outcome.answers ∙ rw (offer, length_permitted n some few long, fits, eq-eqb (length table) (length buf / 2) half, first_passed accepted, first_passed samples)
 
 -- ---- our own tables
 
@@ -137,18 +146,18 @@ transform_filled {p = p} fill passed outcome = let first = transform_pair outcom
 
 -- With our own table whatever lies in the range is transformed.
 pub transform_own : (n : ℕ) → 1 ≤ n → n ≤ 12 → {schedule : ℕ} {buf scratch buf' scratch' : List ℤ} {answer : Answer} →
-    offers 3 schedule ≡ true → length buf ≡ 2 ^ n + 2 ^ n → scratch_fits schedule (length scratch) (length buf) ≡ true → Passed (ranged buf) (length buf) →
+    offers schedule ≡ true → length buf ≡ 2 ^ n + 2 ^ n → scratch_fits schedule (length scratch) (length buf) ≡ true → Passed (ranged buf) (length buf) →
     TransformOutcome schedule buf (sine_table n) scratch answer buf' scratch' → answer ≡ done
 transform_own n some few offer long fits samples outcome =
     transform_done n some few offer long fits (sine_table-length n some) (sine_table-done n some few).accepted samples outcome
 
 -- A longer table of our own whose beginning is taken for the table for N', N' at least 4: whatever the data, 4 at place N'/2.
 pub transform_beginning : (n n' : ℕ) → 2 ≤ n' → n' < n → n ≤ 12 → {schedule : ℕ} {buf scratch buf' scratch' : List ℤ} {answer : Answer} →
-    offers 3 schedule ≡ true → length buf ≡ 2 ^ n' + 2 ^ n' → scratch_fits schedule (length scratch) (length buf) ≡ true →
+    offers schedule ≡ true → length buf ≡ 2 ^ n' + 2 ^ n' → scratch_fits schedule (length scratch) (length buf) ≡ true →
     TransformOutcome schedule buf (take (2 ^ n') (sine_table n)) scratch answer buf' scratch' → answer ≡ refuse_at 4 (2 ^ (n' - 1))
-unfolding verdict
+unfolding transform_verdict
 transform_beginning n n' two less few {schedule} {buf} {scratch} offer long fits outcome =
     let table = take (2 ^ n') (sine_table n) in
     let some : 1 ≤ n' = omega arith in
     let size : length table ≡ length buf / 2 = omega (arith, beginning_length n n' two less few) in
-    outcome.did.gave.answers ∙ rw (offer, length_permitted n' some (omega arith) long, fits, eq-eqb (length table) (length buf / 2) size, beginning_bad n n' two less few)
+    outcome.answers ∙ rw (offer, length_permitted n' some (omega arith) long, fits, eq-eqb (length table) (length buf / 2) size, beginning_bad n n' two less few)

@@ -1,7 +1,7 @@
 // Bit reversal of pairs.
 ghost use Rattle.std.specs.Prelude.{◌≡◌, ◌+◌, ◌^◌, ◌≤◌, ◌<◌, length};
 ghost use Rattle.fourier.specs.Reverse.{rev};
-ghost use Rattle.fixed_numbers.specs.Interleaved.{point, put, interleaved};
+ghost use Rattle.points.specs.Interleaved.{point, put, interleaved};
 ghost use Rattle.fixed.specs.Outcomes.{ReverseOutcome};
 
 use answer::Answer;
@@ -25,7 +25,7 @@ fn exchange(buf: &mut [i32], n: usize)
 {
     let mut i = 0;
     while i < buf.len() / 2 {
-        let j = places::reversed(n, i);
+        let j = reversal::reversed(n, i);
         if i < j {
             swap(buf, i, j);
         }
@@ -38,8 +38,8 @@ fn swap(buf: &mut [i32], i: usize, j: usize)
     requires { (i + i + 1 < length buf.old) × (j + j + 1 < length buf.old) }
     ensures { buf.new ≡ put (put buf.old i (point buf.old j)) j (point buf.old i) }
 {
-    let a = fixed_numbers::point_at(buf, i);
-    let b = fixed_numbers::point_at(buf, j);
-    fixed_numbers::put_point(buf, i, b);
-    fixed_numbers::put_point(buf, j, a);
+    let a = points::point_at(buf, i);
+    let b = points::point_at(buf, j);
+    points::put_point(buf, i, b);
+    points::put_point(buf, j, a);
 }

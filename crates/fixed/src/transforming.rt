@@ -13,6 +13,6 @@ pub fn transform(schedule: u32, buf: &mut [i32], table: &[i32], scratch: &mut [i
         return verdict;
     }
     let n = fixed_judgement::points_log(buf.len());
-    fixed_schedules::by_schedule(schedule, buf, table, scratch, n);
+    fixed_work::do_schedule(schedule, buf, table, n, scratch);
     verdict
 }

@@ -1,7 +1,6 @@
 // What the calls in fixed point judge, in document 01's order. Nothing here writes.
 ghost use Rattle.std.specs.Prelude.{◌≡◌};
-ghost use Rattle.answer.specs.Verdict.{verdict};
-ghost use Rattle.fixed_judgement.specs.Verdicts.{points_log, in_range, bad_sample, transform_lines};
+ghost use Rattle.fixed_judgement.specs.Verdicts.{points_log, in_range, bad_sample, scratch_fits, offers, transform_verdict};
 
 use answer::{Answer, Found};
 
@@ -46,23 +45,43 @@ fn judge_samples(buf: &[i32]) -> Found
     }
 }
 
+// The schedules of the transform.
+fn offered(schedule: u32) -> bool
+    ensures { result ≡ offers schedule }
+{
+    if schedule < 1 {
+        return false;
+    }
+    schedule <= 3
+}
+
+// Whether scratch is as long as the data, where it counts for the schedule.
+fn scratch_fits(schedule: u32, scratch: usize, len: usize) -> bool
+    ensures { result ≡ scratch_fits schedule scratch len }
+{
+    if schedule == 2 {
+        return scratch == len;
+    }
+    true
+}
+
 // The transform: 7, 1, 6, 3, 4, 5.
 pub fn judge_transform(schedule: u32, buf: &[i32], table: &[i32], scratch: usize) -> Answer
-    ensures { result ≡ verdict (transform_lines schedule buf.now table.now scratch) }
+    ensures { result ≡ transform_verdict schedule buf.now table.now scratch }
 {
-    if !answer::offered(3, schedule) {
+    if !offered(schedule) {
         return answer::SCHEDULE;
     }
     if points_log(buf.len()) == 0 {
         return answer::LENGTH;
     }
-    if !answer::scratch_fits(schedule, scratch, buf.len()) {
+    if !scratch_fits(schedule, scratch, buf.len()) {
         return answer::SCRATCH;
     }
     if table.len() != buf.len() / 2 {
         return answer::TABLE_LENGTH;
     }
-    let pair = fixed_tables::judge_table(table);
+    let pair = tables::judge_table(table);
     if let Found::At(place) = pair {
         return Answer { number: 4, place };
     }

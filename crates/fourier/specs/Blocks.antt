@@ -1,10 +1,11 @@
--- Stages as loops do them: in place, block after block, and in a block pair after pair; from which places a stage reads. For any carrier and
--- step.
-use Rattle.std.specs.Prelude.{ℕ, zero, suc, ◌+◌, ◌-◌, ◌*◌, ◌/◌, ◌%◌, ◌<◌, ◌≤◌, ◌≡◌}
-use Rattle.std.proofs.Common.{lt_of_lt_of_le, zero-mul, zero-add, mul-zero, suc-mul, mod-lt, not-suc-le-zero, mul-le-mul_right, div-add-mod', div-lt_iff_lt-mul, arith}
-use Rattle.std.proofs.Math.Nat.{mul-lt-mul_of_pos_left}
+-- Stages as loops do them: in place, block after block, and in a block pair after pair; and stage after stage over a list. For any
+-- carrier and step.
+use Rattle.std.specs.Prelude.{ℕ, zero, suc, ◌+◌, ◌-◌, ◌*◌, ◌/◌, ◌%◌, ◌<◌, ◌≤◌, ◌≡◌, List, length, get_or}
+use Rattle.std.proofs.Common.{◌∙◌, zero-mul, zero-add, mul-zero, suc-mul, mod-lt, not-suc-le-zero, mul-le-mul_right, div-add-mod', div-lt_iff_lt-mul, arith}
+use Rattle.std.proofs.Math.Numerals.{add-one}
 use Rattle.std.proofs.Math.Decide.{dec_lt}
-use Rattle.fourier.specs.Schedules.{Wing, Buffer, Stage, butterfly, shuffled, step}
+use Rattle.answer.specs.Lists.{tabulate, Holds, listed, holds, holds_self}
+use Rattle.fourier.specs.Schedules.{Wing, Buffer, Stage, butterfly, shuffled, step, run}
 use Rattle.fourier.specs.Sentences.{Receive, butterfly_receive, butterfly_shift}
 
 -- The first block: places i and i + h.
@@ -36,7 +37,7 @@ module _ {C : Type 0} (w : Wing C) (stride h : ℕ) where
       let inside = within_block stride h p l in
       rw (butterfly_shift stride h k p (omega arith), same (butterfly stride h p).first inside.0, same (butterfly stride h p).second inside.1)
 
--- ---- which places a stage reads, and which exponents it asks for
+-- ---- stage after stage
 
 -- The stage makes the first N places from the first N places.
 pub record Within (σ : Stage) (N : ℕ) : Type 0 where
@@ -63,18 +64,28 @@ pub shuffled_within : (half : ℕ) (e : ℕ → ℕ) → Within (shuffled half e
 unfolding shuffled
 shuffled_within half e = record { first = λ p l. omega arith; second = λ p l. omega arith }
 
--- Every exponent of the first N places lies in a table of h entries.
-pub record InTable (σ : Stage) (N h : ℕ) : Type 0 where
-  pub below : (p : ℕ) → p < N → (σ p).exponent < h
+-- The list holds what the run of σ on f has after s stages.
+pub record Ran {C : Type 0} (z : C) (w : Wing C) (σ : ℕ → Stage) (N : ℕ) (f : Buffer C) (s : ℕ) (l : List C) : Type 0 where
+  pub held : Holds z l N (run w σ s f)
 
--- An exponent of a block.
-pub exponent_below : {stride i h k : ℕ} → 1 ≤ stride → i < h → stride * h ≤ k → stride * i < k
-exponent_below some l room = lt_of_lt_of_le (mul-lt-mul_of_pos_left l some) room
+module _ {C : Type 0} {z : C} {w : Wing C} {σ : ℕ → Stage} where
+  pub ran_none : (l : List C) → Ran z w σ (length l) (λ p. get_or l p z) 0 l
+  unfolding run
+  ran_none l = record { held = holds_self l }
 
-pub butterfly_in_table : (stride h N : ℕ) {k : ℕ} → 1 ≤ stride → 0 < h → stride * h ≤ k → InTable (butterfly stride h) N k
-unfolding butterfly
-butterfly_in_table stride h N some pos room = record { below = λ p l. exponent_below some (mod-lt p pos) room }
+  -- Stage s is done to it.
+  pub ran_next : {N : ℕ} {f : Buffer C} {s : ℕ} {l l' : List C} → Ran z w σ N f s l → Within (σ s) N → l' ≡ tabulate (length l) (step w (σ s) (λ p. get_or l p z)) → Ran z w σ N f (s + 1) l'
+  unfolding run
+  ran_next {s = s} ran within e =
+      let long = ran.held.long in
+      let new = holds {d = z} e in
+      rw add-one (record {
+        held = record {
+          long = new.long ∙ long;
+          here = λ p h. new.here p (omega arith) ∙ rw (ran.held.here (σ s p).first (within.first p h), ran.held.here (σ s p).second (within.second p h));
+        };
+      })
 
-pub shuffled_in_table : (half : ℕ) (e : ℕ → ℕ) {k : ℕ} → ((i : ℕ) → i < half → e i < k) → InTable (shuffled half e) (half + half) k
-unfolding shuffled
-shuffled_in_table half e small = record { below = λ p l. small (p / 2) (omega arith) }
+  -- All n stages are done.
+  pub ran_all : {N : ℕ} {f : Buffer C} {s : ℕ} {l : List C} (n : ℕ) → Ran z w σ N f s l → s ≡ n → l ≡ tabulate N (run w σ n f)
+  ran_all n ran e = rw e at (listed ran.held)

@@ -150,13 +150,13 @@ module _ {K : Type 0} (R : Ring K) where
 
   module _ (x : K) (n : ℕ) (turn : pow R x (2 ^ (n - 1)) ≡ neg (of 1)) (u : ℕ → K) (inverses : (e : ℕ) → e < 2 ^ (n - 1) → u e ⊗ pow R x e ≡ of 1) (half : K) (halved : half ⊗ of 2 ≡ of 1) where
     -- Of the sums, in the order in which schedules 1, 2, 3 and 5 leave them, the inverse gives the samples back.
-    pub inverse-sums : (A F : Buffer K) → ((p : ℕ) → p < 2 ^ n → F p ≡ fourier R x (2 ^ n) A (rev n p)) → (p : ℕ) → p < 2 ^ n → inverse u half n F p ≡ A p
-    inverse-sums A F given p h =
+    pub inverse_sums : (A F : Buffer K) → ((p : ℕ) → p < 2 ^ n → F p ≡ fourier R x (2 ^ n) A (rev n p)) → (p : ℕ) → p < 2 ^ n → inverse u half n F p ≡ A p
+    inverse_sums A F given p h =
         ap (λ z. pow R half n ⊗ z)
         (local (leaves4 n) K (in_time (arithmetic R) u) F (run (in_frequency (arithmetic R) (pow R x)) (columns n) n A) (λ q l. given q l ∙ sym (sums R x n turn (decimates_frequency R x n turn) (leaves1 n) A q l)) p h)
         ∙ inverse-columns (pow R x) u n inverses half halved A p
 
     -- And the sums of what the inverse makes of any values are those values.
-    pub sums-inverse : (F : Buffer K) (p : ℕ) → p < 2 ^ n → fourier R x (2 ^ n) (inverse u half n F) (rev n p) ≡ F p
-    sums-inverse F p h =
+    pub sums_inverse : (F : Buffer K) (p : ℕ) → p < 2 ^ n → fourier R x (2 ^ n) (inverse u half n F) (rev n p) ≡ F p
+    sums_inverse F p h =
         sym (sums R x n turn (decimates_frequency R x n turn) (leaves1 n) (inverse u half n F) p h) ∙ columns-inverse (pow R x) u n inverses half halved F p

@@ -11,7 +11,7 @@ use Rattle.fourier.specs.Schedules.{Wing, Buffer, Schedule, schedule1, schedule2
 use Rattle.fourier.specs.Array.{Exponents, frequency, time}
 use Rattle.fourier.specs.Leaves.{Leaves, Keeps, Carries, frequency_keeps, time_keeps, related, leaves1, leaves2, leaves3, leaves4, leaves5}
 use Rattle.fourier.specs.Fourier.{arithmetic, fourier, Decimates, decimates_frequency, decimates_time, sums}
-use Rattle.fourier.specs.Inverse.{inverse, inverse-sums, sums-inverse}
+use Rattle.fourier.specs.Inverse.{inverse, inverse_sums, sums_inverse}
 use Rattle.fourier.specs.Table.{root, Accepted, lookup, back, lookup-below, entry-below, root-pow, lookup-pow}
 
 -- ---- definitions
@@ -130,20 +130,20 @@ module _ (m : ℕ) (pos : 0 < m) where
           (fourier_stands the_root (2 ^ n) (λ i. A (order i)) (index p)))
 
       -- What each schedule leaves at place p.
-      pub schedule1-sums : schedule1 n ℕ (frequency_mod m (2 ^ (n - 1)) t) A p ≡ fourier_mod m the_root (2 ^ n) A (rev n p)
-      schedule1-sums = sums_mod frequency_computes (leaves1 n)
+      pub schedule1_sums : schedule1 n ℕ (frequency_mod m (2 ^ (n - 1)) t) A p ≡ fourier_mod m the_root (2 ^ n) A (rev n p)
+      schedule1_sums = sums_mod frequency_computes (leaves1 n)
 
-      pub schedule2-sums : schedule2 n ℕ (frequency_mod m (2 ^ (n - 1)) t) A p ≡ fourier_mod m the_root (2 ^ n) A (rev n p)
-      schedule2-sums = sums_mod frequency_computes (leaves2 n)
+      pub schedule2_sums : schedule2 n ℕ (frequency_mod m (2 ^ (n - 1)) t) A p ≡ fourier_mod m the_root (2 ^ n) A (rev n p)
+      schedule2_sums = sums_mod frequency_computes (leaves2 n)
 
-      pub schedule3-sums : schedule3 n ℕ (frequency_mod m (2 ^ (n - 1)) t) A p ≡ fourier_mod m the_root (2 ^ n) A (rev n p)
-      schedule3-sums = sums_mod frequency_computes (leaves3 n)
+      pub schedule3_sums : schedule3 n ℕ (frequency_mod m (2 ^ (n - 1)) t) A p ≡ fourier_mod m the_root (2 ^ n) A (rev n p)
+      schedule3_sums = sums_mod frequency_computes (leaves3 n)
 
-      pub schedule4-sums : schedule4 n ℕ (time_mod m (2 ^ (n - 1)) t) A p ≡ fourier_mod m the_root (2 ^ n) (λ i. A (rev n i)) p
-      schedule4-sums = sums_mod time_computes (leaves4 n)
+      pub schedule4_sums : schedule4 n ℕ (time_mod m (2 ^ (n - 1)) t) A p ≡ fourier_mod m the_root (2 ^ n) (λ i. A (rev n i)) p
+      schedule4_sums = sums_mod time_computes (leaves4 n)
 
-      pub schedule5-sums : schedule5 n ℕ (time_mod m (2 ^ (n - 1)) t) A p ≡ fourier_mod m the_root (2 ^ n) A (rev n p)
-      schedule5-sums = sums_mod time_computes (leaves5 n)
+      pub schedule5_sums : schedule5 n ℕ (time_mod m (2 ^ (n - 1)) t) A p ≡ fourier_mod m the_root (2 ^ n) A (rev n p)
+      schedule5_sums = sums_mod time_computes (leaves5 n)
 
     -- ---- the inverse
 
@@ -171,25 +171,25 @@ module _ (m : ℕ) (pos : 0 < m) where
           (related n (λ s. Stands) (time_keeps carries n _ _ (λ e l. looked_up _)) (leaves4 n) d (λ q. of (d q)) (λ q l. stands_self (small q l)) p h)
 
       -- Of the sums that schedules 1, 2, 3 and 5 leave, the inverse gives the samples back.
-      pub inverse-sums_mod : (A F : Buffer ℕ) → ((p : ℕ) → p < 2 ^ n → A p < m) → ((p : ℕ) → p < 2 ^ n → F p ≡ fourier_mod m the_root (2 ^ n) A (rev n p)) →
+      pub inverse_sums_mod : (A F : Buffer ℕ) → ((p : ℕ) → p < 2 ^ n → A p < m) → ((p : ℕ) → p < 2 ^ n → F p ≡ fourier_mod m the_root (2 ^ n) A (rev n p)) →
           (p : ℕ) → p < 2 ^ n → inverse_mod m n t F p ≡ A p
       unfolding powers
-      inverse-sums_mod A F small given p h =
+      inverse_sums_mod A F small given p h =
           let sum : (q : ℕ) → Stands (fourier_mod m the_root (2 ^ n) A (rev n q)) (fourier (modulo m pos) (of the_root) (2 ^ n) (λ k. of (A k)) (rev n q)) =
           (λ q. fourier_stands the_root (2 ^ n) A (rev n q)) in
           stands_same
-          (rw (inverse-sums (modulo m pos) (of the_root) n turn (λ e. of (back m (2 ^ (n - 1)) t e)) back-pow (of ((m + 1) / 2)) halved (λ q. of (A q)) (λ q. of (F q)) (λ q l. rw (given q l) (sum q).same) p h)
+          (rw (inverse_sums (modulo m pos) (of the_root) n turn (λ e. of (back m (2 ^ (n - 1)) t e)) back-pow (of ((m + 1) / 2)) halved (λ q. of (A q)) (λ q. of (F q)) (λ q l. rw (given q l) (sum q).same) p h)
           at (inverse_stands F (λ q l. rw (given q l) (sum q).below) p h))
           (stands_self (small p h))
 
       -- And the sums of what the inverse makes of any residues are those residues.
-      pub sums-inverse_mod : (F : Buffer ℕ) → ((p : ℕ) → p < 2 ^ n → F p < m) → (p : ℕ) → p < 2 ^ n → fourier_mod m the_root (2 ^ n) (inverse_mod m n t F) (rev n p) ≡ F p
+      pub sums_inverse_mod : (F : Buffer ℕ) → ((p : ℕ) → p < 2 ^ n → F p < m) → (p : ℕ) → p < 2 ^ n → fourier_mod m the_root (2 ^ n) (inverse_mod m n t F) (rev n p) ≡ F p
       unfolding powers fourier
-      sums-inverse_mod F small p h =
+      sums_inverse_mod F small p h =
           stands_same
           (rw (
             sum_cong (modulo m pos) (2 ^ n) (λ k l. ap (λ z. z ⊗ powers (rev n p * k)) (inverse_stands F small k l).same),
-            sums-inverse (modulo m pos) (of the_root) n turn (λ e. of (back m (2 ^ (n - 1)) t e)) back-pow (of ((m + 1) / 2)) halved (λ q. of (F q)) p h,
+            sums_inverse (modulo m pos) (of the_root) n turn (λ e. of (back m (2 ^ (n - 1)) t e)) back-pow (of ((m + 1) / 2)) halved (λ q. of (F q)) p h,
           )
           at (fourier_stands the_root (2 ^ n) (inverse_mod m n t F) (rev n p)))
           (stands_self (small p h))

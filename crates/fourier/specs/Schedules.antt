@@ -1,5 +1,5 @@
 -- The five schedules over any carrier and any step. A stage says for each place where its new value comes from.
-use Rattle.std.specs.Prelude.{ℕ, zero, suc, ◌+◌, ◌-◌, ◌*◌, ◌/◌, ◌%◌, ◌^◌, cond, eqb}
+use Rattle.std.specs.Prelude.{ℕ, zero, suc, ◌+◌, ◌-◌, ◌*◌, ◌/◌, ◌%◌, ◌^◌}
 use Rattle.fourier.specs.Reverse.{rev}
 
 -- A step on a pair: w 0 e a b and w 1 e a b are what its two places receive that held a and b, at the exponent e.
@@ -42,23 +42,17 @@ shuffled half e p = let k = p / 2 in from (p % 2) (e k) k (k + half)
 abbrev pub columns : ℕ → ℕ → Stage
 columns n s = butterfly (2 ^ s) (2 ^ (n - suc s))
 
--- Schedule 2, the perfect shuffle: the exponent of pair k in stage s, and the stage.
-abbrev pub shuffle_exponent : ℕ → ℕ → ℕ
-shuffle_exponent s k = k - k % 2 ^ s
-
+-- Schedule 2, the perfect shuffle: stage s.
 abbrev pub shuffle : ℕ → ℕ → Stage
-shuffle n s = shuffled (2 ^ (n - 1)) (shuffle_exponent s)
+shuffle n s = shuffled (2 ^ (n - 1)) (λ k. k - k % 2 ^ s)
 
 -- Schedule 4, Thong's T1: stage t, counted from 0.
 abbrev pub thong : ℕ → ℕ → Stage
 thong n t = butterfly (2 ^ (n - suc t)) (2 ^ t)
 
--- Schedule 5, Pease: the exponent of pair k in stage t, counted from 0, and the stage.
-abbrev pub pease_exponent : ℕ → ℕ → ℕ → ℕ
-pease_exponent n t k = 2 ^ (n - suc t) * rev t (k % 2 ^ t)
-
+-- Schedule 5, Pease: stage t, counted from 0.
 abbrev pub pease : ℕ → ℕ → Stage
-pease n t = shuffled (2 ^ (n - 1)) (pease_exponent n t)
+pease n t = shuffled (2 ^ (n - 1)) (λ k. 2 ^ (n - suc t) * rev t (k % 2 ^ t))
 
 -- ---- runs
 
@@ -103,15 +97,6 @@ schedule4 n C w = run w (thong n) n
 
 abbrev pub schedule5 : ℕ → Schedule
 schedule5 n C w = run w (pease n) n
-
--- The schedule of a number, 5 where it is none of the others.
-unfoldable pub by_schedule : ℕ → ℕ → Schedule
-by_schedule schedule n C w d =
-    cond (eqb schedule 1) (schedule1 n C w d)
-    (cond (eqb schedule 2) (schedule2 n C w d)
-    (cond (eqb schedule 3) (schedule3 n C w d)
-    (cond (eqb schedule 4) (schedule4 n C w d)
-    (schedule5 n C w d))))
 
 -- ---- steps
 

@@ -3,7 +3,7 @@ use Rattle.std.specs.Prelude.{ℕ, zero, suc, ◌+◌, ◌-◌, ◌*◌, ◌/◌
 use Rattle.std.proofs.Common.{sym, ap, ◌∙◌, inl, inr, add-zero, mod-lt, mul-pos, div-add-mod', div-lt_iff_lt-mul, arith, pow_pos}
 use Rattle.std.proofs.Math.Nat.{mul-add-mod_self_right, mul-add-div_right, div-div-eq-div-mul}
 use Rattle.std.proofs.Math.Arith.{digits_div, digits_mod}
-use Rattle.fourier.specs.Sizes.{rows, two-halves, half_buffer}
+use Rattle.fourier.specs.Sizes.{rows, two_halves, half_buffer}
 use Rattle.fourier.specs.Reverse.{rev}
 use Rattle.fourier.specs.Schedules.{Source, from, Stage, butterfly, shuffled, columns, shuffle, thong, pease}
 
@@ -133,14 +133,14 @@ columns_only n s l σ says p hp =
     let h = 2 ^ (n - suc s) in
     let j = p / h / 2 in
     let column : j < 2 ^ s =
-    rw div-div-eq-div-mul ((div-lt_iff_lt-mul (mul-pos {n = 2} (pow_pos (n - suc s)) (omega arith))).1 (omega (arith, half_buffer l, two-halves n (omega arith)))) in
+    rw div-div-eq-div-mul ((div-lt_iff_lt-mul (mul-pos {n = 2} (pow_pos (n - suc s)) (omega arith))).1 (omega (arith, half_buffer l, two_halves n (omega arith)))) in
     let place : 2 ^ (n - s) * j + p % h ≡ j * (h + h) + p % h = rw (rows l) (omega arith) in
     let row : p % h < h = mod-lt p (pow_pos (n - suc s)) in
     alike (says j (p % h) column row) (columns_says n s l j (p % h) column row) p (rw place (in_butterfly h p))
 
 shuffled_only : (n s : ℕ) → s < n → (e : ℕ → ℕ) (σ : Stage) → Shuffles n e σ → (p : ℕ) → p < 2 ^ n → σ p ≡ shuffled (2 ^ (n - 1)) e p
 shuffled_only n s l e σ says p hp =
-    let k : p / 2 < 2 ^ (n - 1) = omega (arith, two-halves n (omega arith)) in
+    let k : p / 2 < 2 ^ (n - 1) = omega (arith, two_halves n (omega arith)) in
     alike (says (p / 2) k) (shuffled_says n e (p / 2) k) p (in_shuffle p)
 
 pub shuffle_only : (n s : ℕ) → s < n → (σ : Stage) → ByShuffle n s σ → (p : ℕ) → p < 2 ^ n → σ p ≡ shuffle n s p

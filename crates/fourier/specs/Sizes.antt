@@ -9,8 +9,8 @@ one_more l = omega arith
 pub rows : {n s : ℕ} → s < n → 2 ^ (n - s) ≡ 2 ^ (n - suc s) + 2 ^ (n - suc s)
 rows {n} {s} l = rw (one_more l) (two-pow-succ (n - suc s))
 
-pub two-halves : (n : ℕ) → 0 < n → 2 ^ n ≡ 2 ^ (n - 1) + 2 ^ (n - 1)
-two-halves n l = let e : n ≡ suc (n - 1) = omega arith in ap (λ (z : ℕ). 2 ^ z) e ∙ two-pow-succ (n - 1)
+pub two_halves : (n : ℕ) → 0 < n → 2 ^ n ≡ 2 ^ (n - 1) + 2 ^ (n - 1)
+two_halves n l = let e : n ≡ suc (n - 1) = omega arith in ap (λ (z : ℕ). 2 ^ z) e ∙ two-pow-succ (n - 1)
 
 pub half_buffer : {n s : ℕ} → s < n → 2 ^ (n - suc s) * 2 ^ s ≡ 2 ^ (n - 1)
 half_buffer {n} {s} l = let e : n - 1 ≡ n - suc s + s = omega arith in rw (e, pow-add)

@@ -7,7 +7,7 @@ use Rattle.std.proofs.Math.Bool.{and-eq-true_iff}
 use Rattle.std.proofs.Math.Nat.{le_step}
 use native.Mathlib.Omega.{arith}
 use Rattle.std.proofs.Math.Decide.{dec_lt}
-use Rattle.lists.specs.Passed.{Passed}
+use Rattle.answer.specs.Search.{Passed}
 use Rattle.algebra.specs.Ring.{neg-times, one-times}
 use Rattle.algebra.specs.Sum.{pow, pow_zero, pow_suc, pow-plus, of_pow}
 use Rattle.algebra.specs.Modulo.{modulo, of_mod, of_minus, of_injective}

@@ -1,3 +1,2 @@
--- Laws that serve the proofs of reader and writer.
+-- Laws that serve the proofs of the reader.
 pub mod Reading
-pub mod Writing

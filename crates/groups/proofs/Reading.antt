@@ -6,18 +6,14 @@ use native.Mathlib.Nat.{mul-le-mul, mul-le-mul_left, pow-le-pow_right, pow-succ'
 use native.Mathlib.Omega.{arith}
 use native.Mathlib.Numerals.{add-one}
 use lib.ListN.{length}
-use Rattle.lists.specs.Lists.{at}
+use Rattle.answer.specs.Lists.{at}
 use Rattle.groups.specs.declared.Number.TheVariants.{Fault}
-use Rattle.groups.specs.Groups.{whole, number_from, number_at}
-use Rattle.groups.specs.Theorems.{from_ended, from_last, from_more}
-
--- A group g that counts unit, and what it makes with low, are far below 2^64.
-abbrev pub Small : ℕ → ℕ → ℕ → Type 0
-Small low unit g = (unit * g ≤ 34091302912) × (low + unit * g ≤ 34359738367)
+use Rattle.groups.specs.Groups.{whole, reading, number_at}
+use Rattle.groups.specs.Theorems.{reading_ended, reading_last, reading_more}
 
 -- i bytes are read of the number at p; they make low, and the next counts unit.
 pub record Read (s : List ℕ) (p low unit i : ℕ) : Type 0 where
-  pub rest : number_at s p ≡ number_from s p (5 - i) i low
+  pub rest : number_at s p ≡ reading s p (5 - i) i low
   pub counts : unit ≡ 128 ^ i
   pub below : low < unit
   pub few : i ≤ 5
@@ -28,14 +24,15 @@ read_none s p = record { rest = refl; counts = refl; below = omega arith; few = 
 module _ {s : List ℕ} {p low unit i : ℕ} (r : Read s p low unit i) where
   -- All five bytes are read.
   pub read_all : 5 ≤ i → number_at s p ≡ Fault p
-  unfolding number_from
+  unfolding reading
   read_all h = let z : 5 - i ≡ 0 = omega arith in rw z at r.rest
 
   module _ (h : i < 5) where
     pub unit_small : unit ≤ 268435456
     unit_small = let k : 128 ^ i ≤ 128 ^ 4 = pow-le-pow_right {n = 128} (omega arith) {i = i} {j = 4} (omega arith) in rw r.counts (omega arith)
 
-    pub group_small : (g : ℕ) → g < 128 → Small low unit g
+    -- A group in its place, and what is made of it.
+    pub group_small : (g : ℕ) → g < 128 → (unit * g ≤ 34091302912) × (low + unit * g ≤ 34359738367)
     group_small g l =
         let most : g ≤ 127 = omega arith in
         let m : unit * g ≤ 268435456 * 127 = mul-le-mul unit_small most in
@@ -45,17 +42,17 @@ module _ {s : List ℕ} {p low unit i : ℕ} (r : Read s p low unit i) where
     next = omega arith
 
     pub read_ended : length s ≤ p + i → number_at s p ≡ Fault (length s)
-    read_ended l = (rw next at r.rest) ∙ from_ended s p _ i low l
+    read_ended l = (rw next at r.rest) ∙ reading_ended s p _ i low l
 
     module _ (inside : p + i < length s) where
       pub read_last : at s (p + i) < 128 → number_at s p ≡ whole p i (at s (p + i)) (low + unit * at s (p + i))
-      read_last l = rw r.counts ((rw next at r.rest) ∙ from_last s p _ i low inside l)
+      read_last l = rw r.counts ((rw next at r.rest) ∙ reading_last s p _ i low inside l)
 
       pub read_more : 128 ≤ at s (p + i) → at s (p + i) < 256 → Read s p (low + unit * (at s (p + i) - 128)) (128 * unit) (i + 1)
       read_more l top =
           let group : suc (at s (p + i) - 128) ≤ 128 = omega arith in
           record {
-            rest = rw (r.counts, add-one) ((rw next at r.rest) ∙ rw add-one (from_more s p _ i low inside l));
+            rest = rw (r.counts, add-one) ((rw next at r.rest) ∙ rw add-one (reading_more s p _ i low inside l));
             counts = rw (r.counts, add-one) (sym (pow-succ' 128 i));
             below = omega (arith, r.below, mul-le-mul_left unit group);
             few = omega arith;

@@ -1,6 +1,6 @@
 -- Numbers "in groups of seven bits, low group first, top bit set on all but the last; shortest form only, below 2^32".
 use Rattle.std.specs.Prelude.{ℕ, zero, suc, ◌+◌, ◌-◌, ◌*◌, ◌^◌, Bool, false, cond, List, [], ◌∷◌, length, ltb, eqb}
-use Rattle.lists.specs.Lists.{at}
+use Rattle.answer.specs.Lists.{at}
 use Rattle.groups.specs.Bases.{in_base}
 use Rattle.groups.specs.declared.Number.{Number}
 use Rattle.groups.specs.declared.Number.TheVariants.{Value, Fault}
@@ -14,17 +14,17 @@ unfoldable pub whole : ℕ → ℕ → ℕ → ℕ → Number
 whole p i byte v = cond (overlong i byte) (Fault p) (cond (ltb v 4294967296) (Value v (suc (p + i))) (Fault p))
 
 -- The number from place p of s on, read from its byte i, with k bytes left to it; the bytes before make `low`.
-unfoldable pub number_from : List ℕ → ℕ → ℕ → ℕ → ℕ → Number
-number_from s p zero i low = Fault p
-number_from s p (suc k) i low =
+unfoldable pub reading : List ℕ → ℕ → ℕ → ℕ → ℕ → Number
+reading s p zero i low = Fault p
+reading s p (suc k) i low =
     let byte = at s (p + i) in
     cond (ltb (p + i) (length s))
-    (cond (ltb byte 128) (whole p i byte (low + 128 ^ i * byte)) (number_from s p k (suc i) (low + 128 ^ i * (byte - 128))))
+    (cond (ltb byte 128) (whole p i byte (low + 128 ^ i * byte)) (reading s p k (suc i) (low + 128 ^ i * (byte - 128))))
     (Fault (length s))
 
 -- What stands at place p of s: five bytes at most; "input that ends before or inside a number, the input's length".
 abbrev pub number_at : List ℕ → ℕ → Number
-number_at s p = number_from s p 5 0 0
+number_at s p = reading s p 5 0 0
 
 -- The shortest form of v, of at most k bytes and one: the top bit is set on all but the last.
 abbrev pub groups : ℕ → ℕ → List ℕ

@@ -1,5 +1,4 @@
--- Numbers in groups of seven bits: what is read and written, and that both fit.
+-- Numbers in groups of seven bits.
 pub mod Bases
 pub mod Groups
-pub mod Outcomes
 pub mod Theorems

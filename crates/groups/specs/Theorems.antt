@@ -1,19 +1,16 @@
--- What is written is read back, what is read writes the same bytes, 80 is never followed by 00 inside a number, and reader and writer fit.
+-- What is written is read back, what is read writes the same bytes, and 80 is never followed by 00 inside a number.
 use Prim.Native.Nat.{ℕ, zero, suc, ◌+◌, ◌-◌, ◌*◌, ◌/◌, ◌%◌, ◌^◌, ◌<◌, ◌≤◌}
 use Rattle.std.specs.Prelude.{◌≡◌, refl, Bool, true, false, cond, List, [], ◌∷◌, ◌++◌, drop, take, ltb, eqb}
-use Rattle.std.proofs.Common.{sym, ap, ◌∙◌, append_assoc, div-add-mod', mul-le-mul_right, add-one, length-append, length-drop, take-append-drop, get_or-drop, get_or-take, drop_at, drop-drop, drop-cons, length-take-le}
+use Rattle.std.proofs.Common.{sym, ap, ◌∙◌, div-add-mod', mul-le-mul_right, add-one, length-drop, get_or-drop, get_or-take, drop-drop, drop-cons, length-take-le}
 use Rattle.std.proofs.Math.Nat.{pow-succ', one-le-pow}
 use native.Mathlib.Omega.{arith}
 use Rattle.std.proofs.Math.Decide.{dec_lt}
 use Rattle.std.proofs.Math.ListN.{length}
-use Rattle.std.proofs.lemmas.List.Edits.{sets, sets-eq}
-use borrow.Author.Tests.{lt-ltb, le-ltb, ltb-true, ltb-false, eqb-true, eqb-false, leb-true, le-leb}
-use Rattle.lists.specs.Lists.{at}
+use borrow.Author.Tests.{lt-ltb, le-ltb, ltb-true, ltb-false, eqb-true, eqb-false}
+use Rattle.answer.specs.Lists.{at}
 use Rattle.groups.specs.Bases.{base_one, base_more, base_every, base_less, base_enough}
 use Rattle.groups.specs.declared.Number.TheVariants.{Value, Fault}
-use Rattle.groups.specs.declared.Put.TheVariants.{Behind, NoRoom}
-use Rattle.groups.specs.Groups.{overlong, whole, number_from, number_at, groups, bytes_of}
-use Rattle.groups.specs.Outcomes.{room, PutOutcome}
+use Rattle.groups.specs.Groups.{overlong, whole, reading, number_at, groups, bytes_of}
 
 -- ---- the reader, byte by byte
 
@@ -33,18 +30,18 @@ module _ (p i byte v : ℕ) where
     whole_large h = simp (e, le-ltb v 4294967296 h)
 
 module _ (s : List ℕ) (p k i low : ℕ) where
-  pub from_ended : length s ≤ p + i → number_from s p (suc k) i low ≡ Fault (length s)
-  unfolding number_from
-  from_ended h = rw (le-ltb (p + i) (length s) h)
+  pub reading_ended : length s ≤ p + i → reading s p (suc k) i low ≡ Fault (length s)
+  unfolding reading
+  reading_ended h = rw (le-ltb (p + i) (length s) h)
 
   module _ (h : p + i < length s) where
-    pub from_last : at s (p + i) < 128 → number_from s p (suc k) i low ≡ whole p i (at s (p + i)) (low + 128 ^ i * at s (p + i))
-    unfolding number_from
-    from_last l = simp (lt-ltb (p + i) (length s) h, lt-ltb (at s (p + i)) 128 l)
+    pub reading_last : at s (p + i) < 128 → reading s p (suc k) i low ≡ whole p i (at s (p + i)) (low + 128 ^ i * at s (p + i))
+    unfolding reading
+    reading_last l = simp (lt-ltb (p + i) (length s) h, lt-ltb (at s (p + i)) 128 l)
 
-    pub from_more : 128 ≤ at s (p + i) → number_from s p (suc k) i low ≡ number_from s p k (suc i) (low + 128 ^ i * (at s (p + i) - 128))
-    unfolding number_from
-    from_more l = simp (lt-ltb (p + i) (length s) h, le-ltb (at s (p + i)) 128 l)
+    pub reading_more : 128 ≤ at s (p + i) → reading s p (suc k) i low ≡ reading s p k (suc i) (low + 128 ^ i * (at s (p + i) - 128))
+    unfolding reading
+    reading_more l = simp (lt-ltb (p + i) (length s) h, le-ltb (at s (p + i)) 128 l)
 
 -- ---- the shortest form
 
@@ -98,19 +95,19 @@ value_eq a b = cc
 abbrev Back : List ℕ → ℕ → ℕ → Type 0
 Back s p k =
     (i low u : ℕ) (r : List ℕ) → u < 128 ^ suc k → (u ≡ 0 → i ≡ 0) → low + 128 ^ i * u < 4294967296 → drop (p + i) s ≡ groups k u ++ r →
-    number_from s p (suc k) i low ≡ Value (low + 128 ^ i * u) (p + i + length (groups k u))
+    reading s p (suc k) i low ≡ Value (low + 128 ^ i * u) (p + i + length (groups k u))
 
 back_one : (s : List ℕ) (p k i low u : ℕ) (r : List ℕ) → u < 128 → (u ≡ 0 → i ≡ 0) → low + 128 ^ i * u < 4294967296 → drop (p + i) s ≡ groups k u ++ r →
-    number_from s p (suc k) i low ≡ Value (low + 128 ^ i * u) (p + i + length (groups k u))
+    reading s p (suc k) i low ≡ Value (low + 128 ^ i * u) (p + i + length (groups k u))
 back_one s p k i low u r l first small e =
     let one = groups-one k u l in
     let e' : drop (p + i) s ≡ u ∷ r = rw one at e in
     let h = here s (p + i) u r e' in
-    from_last s p k i low (inside s (p + i) u r e') (rw h l)
+    reading_last s p k i low (inside s (p + i) u r e') (rw h l)
     ∙ rw (h, one) (whole-value p i u (low + 128 ^ i * u) (short i u first) small ∙ value_eq refl (omega arith))
 
 back_more : (s : List ℕ) (p k i low u : ℕ) (r : List ℕ) → Back s p k → 128 ≤ u → u < 128 ^ suc (suc k) → low + 128 ^ i * u < 4294967296 → drop (p + i) s ≡ groups (suc k) u ++ r →
-    number_from s p (suc (suc k)) i low ≡ Value (low + 128 ^ i * u) (p + i + length (groups (suc k) u))
+    reading s p (suc (suc k)) i low ≡ Value (low + 128 ^ i * u) (p + i + length (groups (suc k) u))
 back_more s p k i low u r ih l h small e =
     let more = groups_more k u l in
     let e' : drop (p + i) s ≡ (u % 128 + 128) ∷ (groups k (u / 128) ++ r) = rw more at e in
@@ -118,7 +115,7 @@ back_more s p k i low u r ih l h small e =
     let group : u % 128 + 128 - 128 ≡ u % 128 = omega arith in
     let low' : low + 128 ^ i * (u % 128) + 128 ^ suc i * (u / 128) ≡ low + 128 ^ i * u = rw pow-succ' (omega (arith, split (128 ^ i) u)) in
     let next : p + suc i ≡ suc (p + i) = omega arith in
-    from_more s p (suc k) i low (inside s (p + i) _ _ e') (rw byte (omega arith))
+    reading_more s p (suc k) i low (inside s (p + i) _ _ e') (rw byte (omega arith))
     ∙ rw (byte, group)
     (ih (suc i) (low + 128 ^ i * (u % 128)) (u / 128) r (less (suc k) u h) (λ z. absurd (omega arith)) (rw low' small) (rw next (behind s (p + i) _ _ e'))
     ∙ value_eq low' (rw more (omega arith)))
@@ -127,7 +124,7 @@ back : (s : List ℕ) (p k : ℕ) → Back s p k
 back s p zero i low u r h first small e = back_one s p zero i low u r (omega arith) first small e
 back s p (suc k) i low u r h first small e = by (dec_lt u 128) (back s p k)
   where
-    by : Dec (u < 128) → Back s p k → number_from s p (suc (suc k)) i low ≡ Value (low + 128 ^ i * u) (p + i + length (groups (suc k) u))
+    by : Dec (u < 128) → Back s p k → reading s p (suc (suc k)) i low ≡ Value (low + 128 ^ i * u) (p + i + length (groups (suc k) u))
     by (yes l) ih = back_one s p (suc k) i low u r l first small e
     by (no l) ih = back_more s p k i low u r ih (omega arith) h small e
 
@@ -204,16 +201,16 @@ module _ (s : List ℕ) (p : ℕ) (bytes : (j : ℕ) → at s j < 256) where
         same = rw more (drop-cons s (p + i) 0 h ∙ ap (λ (l : List ℕ). at s (p + i) ∷ l) (rw later at r.same));
       }
 
-  same_from : (k i low v q : ℕ) → number_from s p k i low ≡ Value v q → Same i low v q
-  unfolding number_from
+  same_from : (k i low v q : ℕ) → reading s p k i low ≡ Value v q → Same i low v q
+  unfolding reading
   same_from zero i low v q e = clash (cc e)
   same_from (suc k) i low v q e = by (dec_lt (p + i) (length s)) (dec_lt (at s (p + i)) 128) (same_from k (suc i) (low + 128 ^ i * (at s (p + i) - 128)) v q)
     where
       by : Dec (p + i < length s) → Dec (at s (p + i) < 128) →
-          (number_from s p k (suc i) (low + 128 ^ i * (at s (p + i) - 128)) ≡ Value v q → Same (suc i) (low + 128 ^ i * (at s (p + i) - 128)) v q) → Same i low v q
-      by (yes h) (yes l) ih = same_last i low v q h l (sym (from_last s p k i low h l) ∙ e)
-      by (yes h) (no l) ih = let m : 128 ≤ at s (p + i) = omega arith in same_more i low v q h m (ih (sym (from_more s p k i low h m) ∙ e))
-      by (no h) l ih = clash (cc (from_ended s p k i low (omega arith), e))
+          (reading s p k (suc i) (low + 128 ^ i * (at s (p + i) - 128)) ≡ Value v q → Same (suc i) (low + 128 ^ i * (at s (p + i) - 128)) v q) → Same i low v q
+      by (yes h) (yes l) ih = same_last i low v q h l (sym (reading_last s p k i low h l) ∙ e)
+      by (yes h) (no l) ih = let m : 128 ≤ at s (p + i) = omega arith in same_more i low v q h m (ih (sym (reading_more s p k i low h m) ∙ e))
+      by (no h) l ih = clash (cc (reading_ended s p k i low (omega arith), e))
 
   -- A number that is read is below 2^32, and its bytes are those that it is written in.
   pub same_bytes : (v q : ℕ) → number_at s p ≡ Value v q → (v < 4294967296) × (q ≡ p + length (bytes_of v)) × (drop p s ≡ bytes_of v ++ drop q s)
@@ -261,51 +258,27 @@ never_80_00 v j h = groups_followed 4 v (omega arith) j
 
 -- ---- what lies behind a number's five bytes changes nothing
 
-from_begun : (s : List ℕ) (k p j i low : ℕ) → p + i + j ≤ k → k ≤ length s → number_from (take k s) p j i low ≡ number_from s p j i low
-unfolding number_from
-from_begun s k p zero i low h l = refl
-from_begun s k p (suc j) i low h l =
+reading_begun : (s : List ℕ) (k p j i low : ℕ) → p + i + j ≤ k → k ≤ length s → reading (take k s) p j i low ≡ reading s p j i low
+unfolding reading
+reading_begun s k p zero i low h l = refl
+reading_begun s k p (suc j) i low h l =
     let e : length (take k s) ≡ k = length-take-le k s l in
     rw (get_or-take k s (p + i) 0 (omega arith), lt-ltb (p + i) (length (take k s)) (omega arith), lt-ltb (p + i) (length s) (omega arith))
-    (rw (from_begun s k p j (suc i) (low + 128 ^ i * (at s (p + i) - 128)) (omega arith) l) refl)
+    (rw (reading_begun s k p j (suc i) (low + 128 ^ i * (at s (p + i) - 128)) (omega arith) l) refl)
 
 pub number_begun : (s : List ℕ) (k p : ℕ) → p + 5 ≤ k → k ≤ length s → number_at (take k s) p ≡ number_at s p
-number_begun s k p h l = from_begun s k p 5 0 0 (omega arith) l
+number_begun s k p h l = reading_begun s k p 5 0 0 (omega arith) l
 
 -- The place behind a number is at most five bytes on.
-from-near : (s : List ℕ) (p k i low v q : ℕ) → number_from s p k i low ≡ Value v q → q ≤ p + i + k
-unfolding number_from
-from-near s p zero i low v q e = clash (cc e)
-from-near s p (suc k) i low v q e = by (dec_lt (p + i) (length s)) (dec_lt (at s (p + i)) 128) (from-near s p k (suc i) (low + 128 ^ i * (at s (p + i) - 128)) v q)
+reading-near : (s : List ℕ) (p k i low v q : ℕ) → reading s p k i low ≡ Value v q → q ≤ p + i + k
+unfolding reading
+reading-near s p zero i low v q e = clash (cc e)
+reading-near s p (suc k) i low v q e = by (dec_lt (p + i) (length s)) (dec_lt (at s (p + i)) 128) (reading-near s p k (suc i) (low + 128 ^ i * (at s (p + i) - 128)) v q)
   where
-    by : Dec (p + i < length s) → Dec (at s (p + i) < 128) → (number_from s p k (suc i) (low + 128 ^ i * (at s (p + i) - 128)) ≡ Value v q → q ≤ p + suc i + k) → q ≤ p + i + suc k
-    by (yes h) (yes l) ih = let is = whole_is p i (at s (p + i)) _ v q (sym (from_last s p k i low h l) ∙ e) in omega (arith, is.1)
-    by (yes h) (no l) ih = let near = ih (sym (from_more s p k i low h (omega arith)) ∙ e) in omega arith
-    by (no h) l ih = clash (cc (from_ended s p k i low (omega arith), e))
+    by : Dec (p + i < length s) → Dec (at s (p + i) < 128) → (reading s p k (suc i) (low + 128 ^ i * (at s (p + i) - 128)) ≡ Value v q → q ≤ p + suc i + k) → q ≤ p + i + suc k
+    by (yes h) (yes l) ih = let is = whole_is p i (at s (p + i)) _ v q (sym (reading_last s p k i low h l) ∙ e) in omega (arith, is.1)
+    by (yes h) (no l) ih = let near = ih (sym (reading_more s p k i low h (omega arith)) ∙ e) in omega arith
+    by (no h) l ih = clash (cc (reading_ended s p k i low (omega arith), e))
 
 pub number-near : (s : List ℕ) (p v q : ℕ) → number_at s p ≡ Value v q → q ≤ p + 5
-number-near s p v q e = let near = from-near s p 5 0 0 v q e in omega arith
-
--- ---- reader and writer fit
-
--- What the writer has written the reader reads.
-pub put_read : (v p : ℕ) {out out' : List ℕ} {q : ℕ} → v < 4294967296 → PutOutcome out p v (Behind q) out' → number_at out' p ≡ Value v q
-put_read v p {out} {out'} {q} h r = by (room v p out) refl r.gave.answers r.gave.leaves
-  where
-    by : (t : Bool) → room v p out ≡ t → Behind q ≡ cond t (Behind (p + length (bytes_of v))) NoRoom → out' ≡ cond t (sets out p (bytes_of v)) out → number_at out' p ≡ Value v q
-    by true t answers leaves =
-        let fits : p + length (bytes_of v) ≤ length out = leb-true (p + length (bytes_of v)) (length out) t in
-        let is : out' ≡ take p out ++ (bytes_of v ++ drop (p + length (bytes_of v)) out) = leaves ∙ sets-eq (bytes_of v) out p fits ∙ append_assoc (take p out) (bytes_of v) _ in
-        let ends : q ≡ p + length (bytes_of v) = cc answers in
-        rw ends (read_back out' p v (drop (p + length (bytes_of v)) out) h (rw is (drop_at (take p out) (bytes_of v ++ drop (p + length (bytes_of v)) out) p (length-take-le p out (omega arith)))))
-    by false t answers leaves = clash (cc answers)
-
--- To write a number where it was read changes nothing.
-pub read_put : (s : List ℕ) (p : ℕ) → ((j : ℕ) → at s j < 256) → (v q : ℕ) → number_at s p ≡ Value v q → PutOutcome s p v (Behind q) s
-read_put s p bytes v q e =
-    let r = same_bytes s p bytes v q e in
-    let fits : p + length (bytes_of v) ≤ length s = omega (arith, bytes_few v, r.1, ap length r.2, length-append (bytes_of v) (drop q s), length-drop p s, length-drop q s) in
-    let t = le-leb (p + length (bytes_of v)) (length s) fits in
-    let back : sets s p (bytes_of v) ≡ s =
-    sets-eq (bytes_of v) s p fits ∙ append_assoc (take p s) (bytes_of v) _ ∙ rw (← r.1, ← r.2) (take-append-drop p s) in
-    record { gave = record { answers = rw (t, r.1); leaves = rw (t, back) } }
+number-near s p v q e = let near = reading-near s p 5 0 0 v q e in omega arith

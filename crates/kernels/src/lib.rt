@@ -1,16 +1,20 @@
-// The schedules without the judgement, as the benchmark calls them, and nobody else: what the schedules ask for, the caller owes.
-ghost use Rattle.std.specs.Prelude.{◌≡◌, ℕ, ◌^◌, pos, length};
-ghost use Rattle.lists.specs.Lists.{at, tabulate};
-ghost use Rattle.answer.specs.Schedules.{Chosen, cleared};
-ghost use Rattle.fourier.specs.Schedules.{by_schedule};
-ghost use Rattle.fixed_numbers.specs.declared.Point.{Point};
-ghost use Rattle.fixed_numbers.specs.Growth.{grow};
-ghost use Rattle.fixed_numbers.specs.Interleaved.{point, interleaved};
-ghost use Rattle.fixed_stages.specs.Scans as fixed;
-ghost use Rattle.modular_numbers.specs.Judgement.{Given};
-ghost use Rattle.modular_stages.specs.Ways.{wing_by};
+// The schedules without the judgement, as the benchmark calls them, and nobody else: what `modular_work` and `fixed_work` ask for, the
+// caller owes.
+ghost use Rattle.std.specs.Prelude.{true, ◌≡◌, ◌+◌, ◌-◌, ◌^◌, ◌≤◌, length};
+ghost use Rattle.answer.specs.Lists.{at, tabulate};
+ghost use Rattle.fixed_judgement.specs.Verdicts as fixed-verdicts;
+ghost use Rattle.fixed_work.specs.Works as fixed-works;
+ghost use Rattle.modular_judgement.specs.Verdicts.{scratch_fits};
+ghost use Rattle.modular_work.specs.Works.{by_schedule, cleared};
+ghost use Rattle.points.specs.declared.Point.{Point};
+ghost use Rattle.points.specs.Growth.{grow};
+ghost use Rattle.points.specs.Interleaved.{point, interleaved};
+ghost use Rattle.points.specs.Rounding.{half_up};
+ghost use Rattle.points.specs.Steps.{rounded};
+ghost use Rattle.residues.specs.Judgement.{Judged};
+ghost use Rattle.scan_stages.specs.Scans.{Scanned};
 
-use modular_numbers::Modulus;
+use residues::Modulus;
 
 // All n stages of the schedule, over residues.
 #[unsafe(no_mangle)]
@@ -19,15 +23,17 @@ pub extern "C" fn fdr_modular_kernel(
     buf: &mut [u32],
     m: u32,
     table: &[u32],
-    scratch: &mut [u32],
     n: usize,
+    scratch: &mut [u32],
 )
-    requires given { Given n buf.old m table.now }
-    requires chosen { Chosen 5 schedule (length scratch.old) (length buf.old) }
-    ensures buf_after { buf.new ≡ tabulate (length buf.old) (by_schedule schedule n ℕ (wing_by schedule m table.now) (at buf.old)) }
-    ensures scratch_after { scratch.new ≡ cleared 0 schedule scratch.old }
+    requires judged { Judged m table.now buf.old }
+    requires le_n { (1 ≤ n) × (length buf.old ≡ 2 ^ n) × (length table.now ≡ 2 ^ (n - 1)) }
+    requires le_schedule { (1 ≤ schedule) × (schedule ≤ 5) × (scratch_fits schedule (length scratch.old) (length buf.old) ≡ true) }
+    ensures buf_after { buf.new ≡ tabulate (length buf.old)
+        (by_schedule schedule n m (length table.now) (at table.now) (at buf.old)) }
+    ensures scratch_after { scratch.new ≡ cleared schedule scratch.old }
 {
-    modular_schedules::by_schedule(schedule, buf, Modulus { value: m }, table, scratch, n);
+    modular_work::do_schedule(schedule, buf, table, Modulus { value: m }, n, scratch);
 }
 
 // All n stages of the schedule, in fixed point.
@@ -36,13 +42,15 @@ pub extern "C" fn fdr_fixed_kernel(
     schedule: u32,
     buf: &mut [i32],
     table: &[i32],
-    scratch: &mut [i32],
     n: usize,
+    scratch: &mut [i32],
 )
-    requires given { fixed.Given n (grow 0) buf.old table.now }
-    requires chosen { Chosen 3 schedule (length scratch.old) (length buf.old) }
-    ensures buf_after { buf.new ≡ interleaved (2 ^ n) (by_schedule schedule n Point (fixed.wing_of table.now) (point buf.old)) }
-    ensures scratch_after { scratch.new ≡ cleared (pos 0) schedule scratch.old }
+    requires scanned { Scanned (grow 0) table.now buf.old }
+    requires le_n { (1 ≤ n) × (n ≤ 12) × (length buf.old ≡ 2 ^ n + 2 ^ n) × (length table.now ≡ 2 ^ n) }
+    requires le_schedule { (1 ≤ schedule) × (schedule ≤ 3) × (fixed-verdicts.scratch_fits schedule (length scratch.old) (length buf.old) ≡ true) }
+    ensures buf_after { buf.new ≡ interleaved (2 ^ n)
+        (fixed-works.by_schedule schedule n Point (rounded half_up (point table.now)) (point buf.old)) }
+    ensures scratch_after { scratch.new ≡ fixed-works.cleared schedule scratch.old }
 {
-    fixed_schedules::by_schedule(schedule, buf, table, scratch, n);
+    fixed_work::do_schedule(schedule, buf, table, n, scratch);
 }

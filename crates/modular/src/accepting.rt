@@ -2,19 +2,19 @@
 ghost use Rattle.modular.specs.Outcomes.{AcceptOutcome};
 
 use answer::{Answer, Found};
-use modular_numbers::Modulus;
+use residues::Modulus;
 
 // Whether the table is accepted modulo m: 2, 3, 4. N follows from the table's length.
 pub fn accept(m: u32, table: &[u32]) -> Answer
     ensures { AcceptOutcome m table.now result }
 {
-    if !modular_numbers::permitted(m) {
+    if !residues::permitted(m) {
         return answer::MODULUS;
     }
     if answer::table_log(table.len()) == 0 {
         return answer::TABLE_LENGTH;
     }
-    let entry = modular_tables::judge_table(Modulus { value: m }, table);
+    let entry = residue_tables::judge_table(table, Modulus { value: m });
     if let Found::At(place) = entry {
         return Answer { number: 4, place };
     }

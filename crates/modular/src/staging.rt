@@ -3,7 +3,8 @@ ghost use Rattle.modular.specs.Outcomes.{StageOutcome};
 
 use answer::Answer;
 use modular_judgement::judge_stage;
-use modular_numbers::Modulus;
+use modular_work::do_stage;
+use residues::Modulus;
 
 // Stage s of the schedule done to buf, with the table modulo m: 7, 1, 8, 2, 6, 3, 4, 5.
 pub fn stage(
@@ -22,7 +23,14 @@ pub fn stage(
         return verdict;
     }
     let n = answer::log_of(buf.len());
-    let modulus = Modulus { value: m };
-    modular_schedules::one_stage(schedule, s as usize, buf, modulus, table, scratch, n);
+    do_stage(
+        schedule,
+        s as usize,
+        buf,
+        table,
+        Modulus { value: m },
+        n,
+        scratch,
+    );
     verdict
 }

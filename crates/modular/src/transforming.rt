@@ -3,7 +3,8 @@ ghost use Rattle.modular.specs.Outcomes.{TransformOutcome};
 
 use answer::Answer;
 use modular_judgement::judge_transform;
-use modular_numbers::Modulus;
+use modular_work::do_schedule;
+use residues::Modulus;
 
 // The transform of buf by the schedule, with the table modulo m: 7, 1, 2, 6, 3, 4, 5.
 pub fn transform(
@@ -21,6 +22,6 @@ pub fn transform(
         return verdict;
     }
     let n = answer::log_of(buf.len());
-    modular_schedules::by_schedule(schedule, buf, Modulus { value: m }, table, scratch, n);
+    do_schedule(schedule, buf, table, Modulus { value: m }, n, scratch);
     verdict
 }

@@ -1,52 +1,84 @@
 // What the calls over residues judge, in document 01's order. Nothing here writes.
 ghost use Rattle.std.specs.Prelude.{◌≡◌, ◌/◌, ◌≤◌, length};
-ghost use Rattle.modular_numbers.specs.Moduli.{Permitted};
-ghost use Rattle.answer.specs.Verdict.{verdict};
-ghost use Rattle.modular_judgement.specs.Verdicts.{lent_lines, rest_lines, transform_lines, stage_lines, inverse_lines};
+ghost use Rattle.residues.specs.Moduli.{Permitted};
+ghost use Rattle.modular_judgement.specs.Verdicts.{offers, offers_stage, scratch_fits, lent_verdict, rest_verdict, transform_verdict, stage_verdict, inverse_verdict};
 
 use answer::{Answer, Found};
-use modular_numbers::Modulus;
+use residues::Modulus;
 
 // The table by 3 and 4, and the samples by 5.
 fn judge_lent(buf: &[u32], m: u32, table: &[u32]) -> Answer
     requires permitted { Permitted m }
     requires in_bounds { 1 ≤ length buf.now / 2 }
-    ensures { result ≡ verdict (lent_lines buf.now m table.now) }
+    ensures { result ≡ lent_verdict m table.now buf.now }
 {
     if table.len() != buf.len() / 2 {
         return answer::TABLE_LENGTH;
     }
     let modulus = Modulus { value: m };
-    let entry = modular_tables::judge_table(modulus, table);
+    let entry = residue_tables::judge_table(table, modulus);
     if let Found::At(place) = entry {
         return Answer { number: 4, place };
     }
-    let sample = modular_tables::judge_samples(buf, modulus);
+    let sample = residue_tables::judge_samples(buf, modulus);
     if let Found::At(place) = sample {
         return Answer { number: 5, place };
     }
     answer::DONE
 }
 
+// Whether scratch is as long as the data, where it counts for the schedule.
+fn scratch_fits(schedule: u32, scratch: usize, len: usize) -> bool
+    ensures { result ≡ scratch_fits schedule scratch len }
+{
+    if schedule == 2 {
+        return scratch == len;
+    }
+    if schedule == 5 {
+        return scratch == len;
+    }
+    true
+}
+
 // From the modulus on: 2, 6, 3, 4, 5.
 fn judge_rest(schedule: u32, buf: &[u32], m: u32, table: &[u32], scratch: usize) -> Answer
     requires { 1 ≤ length buf.now / 2 }
-    ensures { result ≡ verdict (rest_lines schedule buf.now m table.now scratch) }
+    ensures { result ≡ rest_verdict schedule buf.now m table.now scratch }
 {
-    if !modular_numbers::permitted(m) {
+    if !residues::permitted(m) {
         return answer::MODULUS;
     }
-    if !answer::scratch_fits(schedule, scratch, buf.len()) {
+    if !scratch_fits(schedule, scratch, buf.len()) {
         return answer::SCRATCH;
     }
     judge_lent(buf, m, table)
 }
 
+// Whether the transform offers the schedule.
+pub fn offered(schedule: u32) -> bool
+    ensures { result ≡ offers schedule }
+{
+    if schedule < 1 {
+        return false;
+    }
+    schedule <= 5
+}
+
+// The schedules of a single stage.
+fn offered_stage(schedule: u32) -> bool
+    ensures { result ≡ offers_stage schedule }
+{
+    if schedule < 1 {
+        return false;
+    }
+    schedule <= 2
+}
+
 // The whole transform: 7, 1, and the rest.
 pub fn judge_transform(schedule: u32, buf: &[u32], m: u32, table: &[u32], scratch: usize) -> Answer
-    ensures { result ≡ verdict (transform_lines schedule buf.now m table.now scratch) }
+    ensures { result ≡ transform_verdict schedule buf.now m table.now scratch }
 {
-    if !answer::offered(5, schedule) {
+    if !offered(schedule) {
         return answer::SCHEDULE;
     }
     if answer::log_of(buf.len()) == 0 {
@@ -64,9 +96,9 @@ pub fn judge_stage(
     table: &[u32],
     scratch: usize,
 ) -> Answer
-    ensures { result ≡ verdict (stage_lines schedule s buf.now m table.now scratch) }
+    ensures { result ≡ stage_verdict schedule s buf.now m table.now scratch }
 {
-    if !answer::offered(2, schedule) {
+    if !offered_stage(schedule) {
         return answer::SCHEDULE;
     }
     let n = answer::log_of(buf.len());
@@ -81,12 +113,12 @@ pub fn judge_stage(
 
 // The inverse: 1, 2, and what is lent.
 pub fn judge_inverse(buf: &[u32], m: u32, table: &[u32]) -> Answer
-    ensures { result ≡ verdict (inverse_lines buf.now m table.now) }
+    ensures { result ≡ inverse_verdict buf.now m table.now }
 {
     if answer::log_of(buf.len()) == 0 {
         return answer::LENGTH;
     }
-    if !modular_numbers::permitted(m) {
+    if !residues::permitted(m) {
         return answer::MODULUS;
     }
     judge_lent(buf, m, table)

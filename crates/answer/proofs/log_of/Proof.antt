@@ -22,6 +22,12 @@ returns c =
     let l = c.before.before.loop in
     sym (l.invariant.1 ∙ log_hit _ _ (omega arith) (c.if1.true ∙ l.invariant.0))
 
+sub-n : tie.Need-overflow-sub-n invariant-loop decreases-loop
+sub-n c = omega arith
+
+loop-less : tie.Need-loop-smaller invariant-loop decreases-loop
+loop-less c = omega arith
+
 loop-again : tie.Need-loop-preserved invariant-loop decreases-loop
 loop-again c =
     let l = c.before.before.loop in
@@ -36,4 +42,4 @@ returns-2 c =
 
 pub log-of-spec : {M : Type 1} → statement M
 log-of-spec =
-    tie.close (tie.spec invariant-loop decreases-loop loop-holds returns (λ c. omega arith) (λ c. omega arith) loop-again returns-2)
+    tie.close (tie.spec invariant-loop decreases-loop loop-holds returns sub-n loop-less loop-again returns-2)

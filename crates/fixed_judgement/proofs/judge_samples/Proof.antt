@@ -5,10 +5,9 @@ use native.Mathlib.Omega.{arith}
 use lib.ListN.{length}
 use mir.Syntax.{w32}
 use borrow.Author.Rules.{rules}
-use Rattle.answer.proofs.Tests.{passed, failed}
-use Rattle.lists.specs.Passed.{Passed, passed_none, passed_more}
-use Rattle.answer.specs.Search.{first_passed, first_failed}
-use Rattle.fixed_numbers.proofs.Fits.{back}
+use borrow.Author.Tests.{not-true, not-false}
+use Rattle.answer.specs.Search.{Passed, passed_none, passed_more, first_passed, first_failed}
+use Rattle.points.proofs.Fits.{back}
 use Rattle.fixed_judgement.specs.Verdicts.{in_range, ranged}
 use Rattle.fixed_judgement.proofs.judge_samples.Statement.{statement}
 use Rattle.fixed_judgement.proofs.judge_samples.Tie as tie
@@ -26,22 +25,44 @@ tested c = c.in_range.ensures ∙ ap in_range (back w32 c.before.in-range-arg.gi
 loop-holds : tie.Need-loop-init invariant-loop decreases-loop
 loop-holds c = (omega arith, passed_none _)
 
+mul-in-range : tie.Need-overflow-mul-in-range invariant-loop decreases-loop
+mul-in-range c = search rules
+
+shared-slice-copy-out-in-range : tie.Need-shared-slice-copy-out-in-range invariant-loop decreases-loop
+shared-slice-copy-out-in-range c = search rules
+
+in-range-requires : tie.Need-in-range-requires invariant-loop decreases-loop
+in-range-requires c κs = search rules
+
+add-index : tie.Need-overflow-add-index invariant-loop decreases-loop
+add-index c = search rules
+
+loop-less : tie.Need-loop-smaller invariant-loop decreases-loop
+loop-less c = search rules
+
 loop-again : tie.Need-loop-preserved invariant-loop decreases-loop
 loop-again c =
     let n = c.before in
-    (omega arith, passed_more n.before.before.before.loop.invariant.1 (passed (tested n) c.if2.false))
+    (omega arith, passed_more n.before.before.before.loop.invariant.1 (sym (tested n) ∙ not-false n.in_range.result c.if2.false))
 
 returns : tie.Need-returns invariant-loop decreases-loop
 returns c = sym (first_passed (rw c.if1.true at c.before.loop.invariant.1))
 
 returns-2 : tie.Need-returns-2 invariant-loop decreases-loop
-returns-2 c = sym (first_failed (record { within = omega arith; fails = failed (tested c.before) c.if2.true; before = c.before.before.before.before.loop.invariant.1 }))
+returns-2 c = sym (first_failed (record { within = omega arith; fails = sym (tested c.before) ∙ not-true c.before.in_range.result c.if2.true; before = c.before.before.before.before.loop.invariant.1 }))
 
 pub judge-samples-spec : {M : Type 1} → statement M
 judge-samples-spec =
-    tie.close (tie.spec invariant-loop decreases-loop
+    tie.close
+    (tie.spec
+    invariant-loop
+    decreases-loop
     loop-holds
-    (λ c. search rules) (λ c. search rules) (λ c κs. search rules) (λ c. search rules) (λ c. search rules)
+    mul-in-range
+    shared-slice-copy-out-in-range
+    in-range-requires
+    add-index
+    loop-less
     loop-again
     returns
     returns-2)

@@ -1,70 +1,94 @@
 -- Each test rewrites its line of the verdict.
-use mathlib.Core.Path.{◌≡◌}
+use mathlib.Core.Path.{◌≡◌, sym, ◌∙◌}
 use mathlib.Core.Bool.{true}
-use mathlib.Core.List.{[], ◌∷◌}
 use lib.ListN.{length}
 use borrow.Author.Rules.{rules}
-use borrow.Author.Tests.{eq-eqb, ne_eqb}
-use Rattle.answer.specs.Schedules.{offers, scratch_fits}
-use Rattle.answer.specs.Verdict.{verdict, seeks}
-use Rattle.answer.proofs.Tests.{passed, failed, long}
-use Rattle.fixed_tables.specs.Rules.{bad_pair}
-use Rattle.fixed_judgement.specs.Verdicts.{permitted_length, bad_sample, transform_lines}
+use borrow.Author.Tests.{not-true, not-false, eq-eqb, ne_eqb}
+use Rattle.answer.specs.Choice.{done, judged_at}
+use Rattle.tables.specs.Rules.{bad_pair}
+use Rattle.fixed_judgement.specs.Verdicts.{offers, permitted_length, scratch_fits, bad_sample, transform_verdict}
+use Rattle.fixed_judgement.proofs.Tests.{long}
 use Rattle.fixed_judgement.proofs.judge_transform.Statement.{statement}
 use Rattle.fixed_judgement.proofs.judge_transform.Tie as tie
 
 -- What the tests that were passed tell.
-offer : (c : tie.Else1) → offers 3 c.before.before.args.schedule ≡ true
-offer c = passed c.before.offered.ensures c.if1.false
+schedule-offered : (c : tie.Else1) → offers c.before.before.args.schedule ≡ true
+schedule-offered c = sym c.before.offered.ensures ∙ not-false c.before.offered.result c.if1.false
 
-permitted : (c : tie.Else2) → permitted_length (length c.before.before.before.before.args.buf.now) ≡ true
-permitted c = long _ c.before.points_log.ensures c.if2.false
+length_permitted : (c : tie.Else2) → permitted_length (length c.before.before.before.before.args.buf.now) ≡ true
+length_permitted c = long _ c.before.points_log.ensures c.if2.false
 
-fit : (c : tie.Else3) → (let s = c.before.before.before.before.before.before.args in scratch_fits s.schedule s.scratch (length s.buf.now) ≡ true)
-fit c = passed c.before.scratch_fits.ensures c.if3.false
+scratch-fit : (c : tie.Else3) → (let s = c.before.before.before.before.before.before.args in scratch_fits s.schedule s.scratch (length s.buf.now) ≡ true)
+scratch-fit c = sym c.before.scratch_fits.ensures ∙ not-false c.before.scratch_fits.result c.if3.false
 
 -- Nothing but the table and the samples is left to judge.
 judged-so-far : (c : tie.Else4) →
     (let s = c.before.before.before.before.before.before.before.args in
-    verdict (transform_lines s.schedule s.buf.now s.table.now s.scratch) ≡ verdict (seeks 4 (bad_pair s.table.now) ∷ seeks 5 (bad_sample s.buf.now) ∷ []))
-unfolding verdict
+    transform_verdict s.schedule s.buf.now s.table.now s.scratch ≡ judged_at 4 (bad_pair s.table.now) (judged_at 5 (bad_sample s.buf.now) done))
+unfolding transform_verdict
 judged-so-far c =
-    let e = c.before.before.before in
-    rw (offer e.before.before, permitted e, fit c.before, eq-eqb _ _ c.if4.false)
+    let fit = c.before in
+    let permitted = fit.before.before in
+    rw (schedule-offered permitted.before.before, length_permitted permitted, scratch-fit fit, eq-eqb _ _ c.if4.false)
+
+offered-requires : tie.Need-offered-requires
+offered-requires c κs = search rules
 
 returns : tie.Need-returns
-unfolding verdict
-returns c = rw (failed c.before.offered.ensures c.if1.true)
+unfolding transform_verdict
+returns c = rw (← c.before.offered.ensures, not-true c.before.offered.result c.if1.true)
+
+points-log-requires : tie.Need-points-log-requires
+points-log-requires c κs = search rules
 
 returns-2 : tie.Need-returns-2
-unfolding verdict
-returns-2 c = rw (offer c.before.before, ← c.before.points_log.ensures, c.if2.true)
+unfolding transform_verdict
+returns-2 c = rw (schedule-offered c.before.before, ← c.before.points_log.ensures, c.if2.true)
+
+scratch-fits-requires : tie.Need-scratch-fits-requires
+scratch-fits-requires c κs = search rules
 
 returns-3 : tie.Need-returns-3
-unfolding verdict
+unfolding transform_verdict
 returns-3 c =
-    let e = c.before.before in
-    rw (offer e.before.before, permitted e, failed c.before.scratch_fits.ensures c.if3.true)
+    let permitted = c.before.before in
+    rw (schedule-offered permitted.before.before, length_permitted permitted, ← c.before.scratch_fits.ensures, not-true c.before.scratch_fits.result c.if3.true)
 
 returns-4 : tie.Need-returns-4
-unfolding verdict
+unfolding transform_verdict
 returns-4 c =
-    let e = c.before.before.before in
-    rw (offer e.before.before, permitted e, fit c.before, ne_eqb _ _ c.if4.true)
+    let fit = c.before in
+    let permitted = fit.before.before in
+    rw (schedule-offered permitted.before.before, length_permitted permitted, scratch-fit fit, ne_eqb _ _ c.if4.true)
+
+judge-table-requires : tie.Need-judge-table-requires
+judge-table-requires c κs = search rules
+
+enum-known-pair : tie.Need-enum-known-pair
+enum-known-pair c = search rules
 
 returns-5 : tie.Need-returns-5
-unfolding verdict
 returns-5 c = let t = c.before.before.before in rw (judged-so-far t.before, ← t.judge-table.ensures, c.before.pair.given.1)
 
+enum_told : tie.Need-enum-told
+enum_told c = search rules
+
+judge-samples-requires : tie.Need-judge-samples-requires
+judge-samples-requires c κs = search rules
+
+enum-known-sample : tie.Need-enum-known-sample
+enum-known-sample c = search rules
+
 returns-6 : tie.Need-returns-6
-unfolding verdict
 returns-6 c =
     let s = c.before.before.before in
     let t = s.before.before.before in
     rw (judged-so-far t.before, ← t.judge-table.ensures, s.before.enum_told.given.1, ← s.judge-samples.ensures, c.before.sample.given.1)
 
+enum-told-2 : tie.Need-enum-told-2
+enum-told-2 c = search rules
+
 returns-7 : tie.Need-returns-7
-unfolding verdict
 returns-7 c =
     let s = c.before.before in
     let t = s.before.before.before in
@@ -72,17 +96,21 @@ returns-7 c =
 
 pub judge-transform-spec : {M : Type 1} → statement M
 judge-transform-spec =
-    tie.close (tie.spec
-    (λ c κs. search rules)
+    tie.close
+    (tie.spec
+    offered-requires
     returns
-    (λ c κs. search rules)
+    points-log-requires
     returns-2
-    (λ c κs. search rules)
+    scratch-fits-requires
     returns-3
     returns-4
-    (λ c κs. search rules) (λ c. search rules)
+    judge-table-requires
+    enum-known-pair
     returns-5
-    (λ c. search rules) (λ c κs. search rules) (λ c. search rules)
+    enum_told
+    judge-samples-requires
+    enum-known-sample
     returns-6
-    (λ c. search rules)
+    enum-told-2
     returns-7)

@@ -2,6 +2,8 @@
 use borrow.Author.Tests.{eq-eqb, ne_eqb}
 use Rattle.groups.proofs.overlong.Statement.{statement}
 use Rattle.groups.proofs.overlong.Tie as tie
+use Rattle.groups.proofs.overlong.Reads as reads
+use Rattle.groups.proofs.overlong.Lts as lts
 
 returns : tie.Need-returns
 returns c = rw (eq-eqb _ _ c.if1.true)

@@ -1,34 +1,40 @@
--- Each test rewrites its line of the verdict.
-use mathlib.Core.Path.{◌≡◌}
-use mathlib.Core.Bool.{true}
-use lib.ListN.{length}
+use Rattle.residues.specs.Moduli.{permits_permitted}
+use Rattle.modular_judgement.specs.Verdicts.{inverse_verdict}
+use Rattle.modular_judgement.proofs.Tests.{passed, failed, long, long_half}
 use borrow.Author.Rules.{rules}
-use Rattle.answer.specs.Verdict.{verdict}
-use Rattle.answer.proofs.Tests.{passed, failed, long, long_half}
-use Rattle.modular_numbers.specs.Moduli.{permits_permitted}
-use Rattle.modular_judgement.specs.Verdicts.{permitted_length}
 use Rattle.modular_judgement.proofs.judge_inverse.Statement.{statement}
 use Rattle.modular_judgement.proofs.judge_inverse.Tie as tie
+use Rattle.modular_judgement.proofs.judge_inverse.Reads as reads
+use Rattle.modular_judgement.proofs.judge_inverse.Lts as lts
+use Rattle.answer.proofs.log_of.Reads as log-of-reads
+use Rattle.modular_judgement.proofs.judge_lent.Reads as judge-lent-reads
+use Rattle.residues.proofs.permitted.Reads as permitted-reads
 
-permitted : (c : tie.Else1) → permitted_length (length c.before.before.before.before.args.buf.now) ≡ true
-permitted c = long _ c.before.log_of.ensures c.if1.false
+log-of-requires : tie.Need-log-of-requires
+log-of-requires c κs = search rules
 
 returns : tie.Need-returns
-unfolding verdict
+unfolding inverse_verdict
 returns c = rw (← c.before.log_of.ensures, c.if1.true)
 
+permitted-requires : tie.Need-permitted-requires
+permitted-requires c κs = search rules
+
 returns-2 : tie.Need-returns-2
-unfolding verdict
-returns-2 c = rw (permitted c.before.before, failed c.before.permitted.ensures c.if2.true)
+unfolding inverse_verdict
+returns-2 c = let l = c.before.before in rw (long _ l.before.log_of.ensures l.if1.false, failed c.before.permitted.ensures c.if2.true)
 
 judge-lent-requires : tie.Need-judge-lent-requires
-judge-lent-requires c κs = (permits_permitted _ (passed c.before.permitted.ensures c.if2.false), long_half _ (permitted c.before.before))
+judge-lent-requires c κs = let l = c.before.before in (permits_permitted _ (passed c.before.permitted.ensures c.if2.false), long_half _ (long _ l.before.log_of.ensures l.if1.false))
 
 returns-3 : tie.Need-returns-3
-unfolding verdict
-returns-3 c = let e = c.before in rw (permitted e.before.before, passed e.before.permitted.ensures e.if2.false) c.judge-lent.ensures
+unfolding inverse_verdict
+returns-3 c =
+    let e = c.before in
+    let l = e.before.before in
+    rw (long _ l.before.log_of.ensures l.if1.false, passed e.before.permitted.ensures e.if2.false) c.judge-lent.ensures
 
 pub judge-inverse-spec : {M : Type 1} → statement M
 judge-inverse-spec =
     tie.close
-    (tie.spec (λ c κs. search rules) returns (λ c κs. search rules) returns-2 judge-lent-requires returns-3)
+    (tie.spec log-of-requires returns permitted-requires returns-2 judge-lent-requires returns-3)

@@ -1,30 +1,44 @@
--- Each test rewrites its line of the verdict.
-use mathlib.Core.Path.{◌≡◌}
-use mathlib.Core.Bool.{true}
+use native.Mathlib.Omega.{arith}
+use Rattle.residues.specs.Moduli.{permits_permitted}
+use Rattle.modular_judgement.specs.Verdicts.{scratch_fits, rest_verdict}
+use Rattle.modular_judgement.proofs.Tests.{passed, failed}
 use borrow.Author.Rules.{rules}
-use Rattle.answer.specs.Verdict.{verdict}
-use Rattle.answer.proofs.Tests.{passed, failed}
-use Rattle.modular_numbers.specs.Moduli.{permits, permits_permitted}
 use Rattle.modular_judgement.proofs.judge_rest.Statement.{statement}
 use Rattle.modular_judgement.proofs.judge_rest.Tie as tie
+use Rattle.modular_judgement.proofs.judge_rest.Reads as reads
+use Rattle.modular_judgement.proofs.judge_rest.Lts as lts
+use Rattle.modular_judgement.proofs.judge_lent.Reads as judge-lent-reads
+use Rattle.modular_judgement.proofs.scratch_fits.Reads as scratch-fits-reads
+use Rattle.residues.proofs.permitted.Reads as permitted-reads
 
-modulus : (c : tie.Else1) → permits c.before.before.before.before.args.m ≡ true
-modulus c = passed c.before.permitted.ensures c.if1.false
+permitted-requires : tie.Need-permitted-requires
+permitted-requires c κs = search rules
 
 returns : tie.Need-returns
-unfolding verdict
+unfolding rest_verdict
 returns c = rw (failed c.before.permitted.ensures c.if1.true)
 
+scratch-fits-requires : tie.Need-scratch-fits-requires
+scratch-fits-requires c κs = search rules
+
 returns-2 : tie.Need-returns-2
-unfolding verdict
-returns-2 c = rw (modulus c.before.before, failed c.before.scratch_fits.ensures c.if2.true)
+unfolding rest_verdict
+returns-2 c = rw (passed c.before.before.before.permitted.ensures c.before.before.if1.false, failed c.before.scratch_fits.ensures c.if2.true)
 
 judge-lent-requires : tie.Need-judge-lent-requires
-judge-lent-requires c κs = (permits_permitted _ (modulus c.before.before), search rules)
+judge-lent-requires c κs = (permits_permitted _ (passed c.before.before.before.permitted.ensures c.before.before.if1.false), omega arith)
 
 returns-3 : tie.Need-returns-3
-unfolding verdict
-returns-3 c = let e = c.before in rw (modulus e.before.before, passed e.before.scratch_fits.ensures e.if2.false) c.judge-lent.ensures
+unfolding rest_verdict
+returns-3 c = let e = c.before in rw (passed e.before.before.before.permitted.ensures e.before.before.if1.false, passed e.before.scratch_fits.ensures e.if2.false) c.judge-lent.ensures
 
 pub judge-rest-spec : {M : Type 1} → statement M
-judge-rest-spec = tie.close (tie.spec (λ c κs. search rules) returns (λ c κs. search rules) returns-2 judge-lent-requires returns-3)
+judge-rest-spec =
+    tie.close
+    (tie.spec
+    permitted-requires
+    returns
+    scratch-fits-requires
+    returns-2
+    judge-lent-requires
+    returns-3)

@@ -3,10 +3,9 @@ use mathlib.Core.Path.{◌≡◌}
 use mathlib.Core.Bool.{true}
 use lib.ListN.{length}
 use borrow.Author.Rules.{rules}
-use Rattle.answer.specs.Verdict.{verdict}
-use Rattle.fixed_judgement.specs.Verdicts.{permitted_length}
+use Rattle.fixed_judgement.specs.Verdicts.{permitted_length, reverse_verdict}
 use Rattle.fixed_judgement.specs.Ready.{permitted_points}
-use Rattle.answer.proofs.Tests.{long}
+use Rattle.fixed_judgement.proofs.Tests.{long}
 use Rattle.fixed.proofs.reversing.reverse.Statement.{statement}
 use Rattle.fixed.proofs.reversing.reverse.Tie as tie
 
@@ -14,11 +13,14 @@ use Rattle.fixed.proofs.reversing.reverse.Tie as tie
 permitted : (c : tie.Else1) → permitted_length (length c.before.before.args.buf.now) ≡ true
 permitted c = long _ c.before.points_log.ensures c.if1.false
 
+points-log-requires : tie.Need-points-log-requires
+points-log-requires c κs = search rules
+
 returns : tie.Need-returns
-unfolding verdict
+unfolding reverse_verdict
 returns c =
     let n = c.before.points_log.ensures in
-    record { did = record { gave = record { answers = rw (← n, c.if1.true); leaves = rw (← n, c.if1.true) } } }
+    record { answers = rw (← n, c.if1.true); leaves = rw (← n, c.if1.true) }
 
 exchange-requires : tie.Need-exchange-requires
 exchange-requires c κs =
@@ -26,15 +28,18 @@ exchange-requires c κs =
     let points = permitted_points _ (permitted c.before) in
     rw n (points.whole, points.few)
 
+same_length : tie.Need-same-length
+same_length c = search rules
+
 returns-2 : tie.Need-returns-2
-unfolding verdict
+unfolding reverse_verdict
 returns-2 c =
     let w = c.before in
     let i = w.before.before in
     let n = i.before.points_log.ensures in
-    record { did = record { gave = record { answers = rw (permitted i); leaves = rw (permitted i) (rw n at w.exchange.ensures) } } }
+    record { answers = rw (permitted i); leaves = rw (permitted i) (rw n at w.exchange.ensures) }
 
 pub reverse-spec : {M : Type 1} → statement M
 reverse-spec =
     tie.close
-    (tie.spec (λ c κs. search rules) returns exchange-requires (λ c. search rules) returns-2)
+    (tie.spec points-log-requires returns exchange-requires same_length returns-2)

@@ -3,6 +3,21 @@ use borrow.Author.Rules.{rules}
 use Rattle.fixed.proofs.reversing.swap.Statement.{statement}
 use Rattle.fixed.proofs.reversing.swap.Tie as tie
 
+point-at-requires : tie.Need-point-at-requires
+point-at-requires c κs = search rules
+
+point-at-requires-2 : tie.Need-point-at-requires-2
+point-at-requires-2 c κs = search rules
+
+put-point-requires : tie.Need-put-point-requires
+put-point-requires c κs = search rules
+
+put-point-requires-2 : tie.Need-put-point-requires-2
+put-point-requires-2 c κs = search rules
+
+same_length : tie.Need-same-length
+same_length c = search rules
+
 returns : tie.Need-returns
 returns c =
     let p = c.before.before.before.before in
@@ -12,6 +27,11 @@ returns c =
 
 pub swap_spec : {M : Type 1} → statement M
 swap_spec =
-    tie.close (tie.spec
-    (λ c κs. search rules) (λ c κs. search rules) (λ c κs. search rules) (λ c κs. search rules) (λ c. search rules)
+    tie.close
+    (tie.spec
+    point-at-requires
+    point-at-requires-2
+    put-point-requires
+    put-point-requires-2
+    same_length
     returns)

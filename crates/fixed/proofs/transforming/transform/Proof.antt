@@ -1,52 +1,81 @@
 -- What was judged 0 is ready for the schedules, and a refusal writes nothing.
-use Prim.Native.Nat.{ℕ}
-use mathlib.Core.Path.{refl}
+use mathlib.Core.Path.{◌≡◌, sym, ◌∙◌}
+use mathlib.Core.Bool.{true}
 use mathlib.Core.List.{List}
 use lib.IntN.{ℤ}
 use lib.ListN.{length}
 use borrow.Author.Rules.{rules}
-use Rattle.answer.specs.Verdict.{Passes, done_passes, did_work, did_refuse}
-use Rattle.fixed_numbers.specs.Growth.{grow}
-use Rattle.fixed_stages.specs.Scans.{Given}
-use Rattle.fixed_judgement.specs.Verdicts.{points_log, transform_lines}
-use Rattle.fixed_judgement.specs.Ready.{Ready, transform_ready, table_turns}
+use Rattle.answer.specs.declared.Answer.{Answer}
+use Rattle.answer.specs.Choice.{done_left, refused_left}
+use Rattle.points.specs.Growth.{grow}
+use Rattle.scan_stages.specs.Scans.{Scanned}
+use Rattle.fixed_judgement.specs.Verdicts.{offers, scratch_fits, transform_verdict}
+use Rattle.fixed_judgement.specs.Ready.{Ready, transform_ready, table-turns, offers_range}
 use Rattle.fixed.proofs.transforming.transform.Statement.{statement}
 use Rattle.fixed.proofs.transforming.transform.Tie as tie
 
+-- What was judged.
+abbrev verdict : tie.After-judge-transform → Answer
+verdict c = let s = c.before.before.args in transform_verdict s.schedule s.buf.now s.table.now (length s.scratch.now)
+
 -- The judgement was passed.
-passes : (c : tie.Else1) → (let s = c.before.before.before.before.args in (j : ℕ) → Passes (transform_lines s.schedule s.buf.now s.table.now (length s.scratch.now)) j)
-passes c = done_passes _ refl (rw c.before.before.judge-transform.ensures at c.if1.false)
+zero : (c : tie.Else1) → (verdict c.before.before).number ≡ 0
+zero c = rw c.before.before.judge-transform.ensures at c.if1.false
+
+ready : (c : tie.Else1) → (let s = c.before.before.before.before.args in (offers s.schedule ≡ true) × (Ready s.buf.now s.table.now) × (scratch_fits s.schedule (length s.scratch.now) (length s.buf.now) ≡ true))
+ready c = transform_ready _ _ _ _ (zero c)
 
 -- What the schedules ask.
-given : {buf table : List ℤ} → Ready buf table → Given (points_log (length buf)) (grow 0) buf table
+scanned : {buf table : List ℤ} → Ready buf table → Scanned (grow 0) table buf
 unfolding grow
-given r = record {
-  scanned = record { each = r.sized; turns = table_turns r };
-  points = r.points;
-  table = r.long;
-}
+scanned r = record { turns = table-turns r; each = r.sized }
+
+judge-transform-requires : tie.Need-judge-transform-requires
+judge-transform-requires c κs = search rules
+
+same_length : tie.Need-same-length
+same_length c = search rules
 
 returns : tie.Need-returns
-returns c = record { did = did_refuse c.before.before.judge-transform.ensures c.if1.true refl }
+returns c =
+    let v = verdict c.before.before in
+    let e = c.before.before.judge-transform.ensures in
+    let refused = rw e at c.if1.true in
+    record { answers = e; leaves = sym (refused_left v _ _ refused); clears = sym (refused_left v _ _ refused) }
 
-by-schedule-requires : tie.Need-by-schedule-requires
-by-schedule-requires c κs =
-    let p = passes c.before.before.before in
-    (rw c.before.before.points_log.ensures (given (transform_ready _ _ _ _ p)), record { offered = p 7; room = p 6 })
+points-log-requires : tie.Need-points-log-requires
+points-log-requires c κs = search rules
+
+do-schedule-requires : tie.Need-do-schedule-requires
+do-schedule-requires c κs =
+    let n = c.before.before.points_log.ensures in
+    let r = ready c.before.before.before in
+    let range = offers_range _ r.0 in
+    (scanned r.1, (rw n (r.1.points.some, r.1.points.few, r.1.points.whole, r.1.long), (range.0, range.1, r.2)))
+
+same-length-2 : tie.Need-same-length-2
+same-length-2 c = search rules
+
+same-length-3 : tie.Need-same-length-3
+same-length-3 c = search rules
 
 returns-2 : tie.Need-returns-2
 returns-2 c =
     let w = c.before.before in
     let n = w.before.before.before.points_log.ensures in
     let i = w.before.before.before.before in
-    record { did = did_work i.before.before.judge-transform.ensures i.if1.false (rw (rw n at w.by_schedule.ensures.0, w.by_schedule.ensures.1)) }
+    let v = verdict i.before.before in
+    record { answers = i.before.before.judge-transform.ensures; leaves = rw n at w.do-schedule.ensures.0 ∙ sym (done_left v _ _ (zero i)); clears = w.do-schedule.ensures.1 ∙ sym (done_left v _ _ (zero i)) }
 
 pub transform-spec : {M : Type 1} → statement M
 transform-spec =
-    tie.close (tie.spec
-    (λ c κs. search rules) (λ c. search rules)
+    tie.close
+    (tie.spec
+    judge-transform-requires
+    same_length
     returns
-    (λ c κs. search rules)
-    by-schedule-requires
-    (λ c. search rules) (λ c. search rules)
+    points-log-requires
+    do-schedule-requires
+    same-length-2
+    same-length-3
     returns-2)

@@ -1,18 +1,21 @@
--- Each test rewrites its line of the verdict.
 use Prim.Native.Nat.{◌+◌}
 use mathlib.Core.Path.{◌≡◌}
 use mathlib.Core.Bool.{true}
 use native.Mathlib.Omega.{arith}
 use lib.ListN.{length}
-use Rattle.modular_numbers.specs.Moduli.{permits, permits_permitted}
-use Rattle.answer.specs.Verdict.{did_judge}
-use Rattle.answer.specs.Verdict.{verdict}
+use Rattle.residues.specs.Moduli.{permits, permits_permitted}
+use Rattle.modular_judgement.specs.Verdicts.{accept_verdict}
 use Rattle.answer.specs.Lengths.{table_log}
 use lib.Dec.{ltb}
-use Rattle.answer.proofs.Tests.{passed, failed, long, long_half}
+use Rattle.modular_judgement.proofs.Tests.{passed, failed, long, long_half}
 use borrow.Author.Rules.{rules}
 use Rattle.modular.proofs.accepting.accept.Statement.{statement}
 use Rattle.modular.proofs.accepting.accept.Tie as tie
+use Rattle.modular.proofs.accepting.accept.Reads as reads
+use Rattle.modular.proofs.accepting.accept.Lts as lts
+use Rattle.answer.proofs.table_log.Reads as table-log-reads
+use Rattle.residue_tables.proofs.judge_table.Reads as judge-table-reads
+use Rattle.residues.proofs.permitted.Reads as permitted-reads
 
 -- What the tests that were passed tell.
 modulus : (c : tie.Else1) → permits c.before.before.before.args.m ≡ true
@@ -21,13 +24,19 @@ modulus c = passed c.before.permitted.ensures c.if1.false
 size : (c : tie.Else2) → (let t = c.before.before.before.before.before.args.table.now in ltb 0 (table_log (length t)) ≡ true)
 size c = long _ c.before.table_log.ensures c.if2.false
 
+permitted-requires : tie.Need-permitted-requires
+permitted-requires c κs = search rules
+
 returns : tie.Need-returns
-unfolding verdict
-returns c = record { did = did_judge (rw (failed c.before.permitted.ensures c.if1.true)) }
+unfolding accept_verdict
+returns c = record { answers = rw (failed c.before.permitted.ensures c.if1.true) }
+
+table-log-requires : tie.Need-table-log-requires
+table-log-requires c κs = search rules
 
 returns-2 : tie.Need-returns-2
-unfolding verdict
-returns-2 c = record { did = did_judge (rw (modulus c.before.before, ← c.before.table_log.ensures, c.if2.true)) }
+unfolding accept_verdict
+returns-2 c = record { answers = rw (modulus c.before.before, ← c.before.table_log.ensures, c.if2.true) }
 
 judge-table-requires : tie.Need-judge-table-requires
 judge-table-requires c κs =
@@ -35,25 +44,30 @@ judge-table-requires c κs =
     let half = long_half (length t + length t) (size c) in
     (permits_permitted _ (modulus c.before.before), omega arith)
 
+enum-known-entry : tie.Need-enum-known-entry
+enum-known-entry c = search rules
+
 returns-3 : tie.Need-returns-3
-unfolding verdict
-returns-3 c =
-    let e = c.before.before.before.before in
-    record { did = did_judge (rw (modulus e.before.before, size e, ← c.before.before.before.judge-table.ensures, c.before.entry.given.1)) }
+unfolding accept_verdict
+returns-3 c = let e = c.before.before.before.before in record { answers = rw (modulus e.before.before, size e, ← c.before.before.before.judge-table.ensures, c.before.entry.given.1) }
+
+enum_told : tie.Need-enum-told
+enum_told c = search rules
 
 returns-4 : tie.Need-returns-4
-unfolding verdict
-returns-4 c = let e = c.before.before.before in record { did = did_judge (rw (modulus e.before.before, size e, ← c.before.before.judge-table.ensures, c.enum_told.given.1)) }
+unfolding accept_verdict
+returns-4 c = let e = c.before.before.before in record { answers = rw (modulus e.before.before, size e, ← c.before.before.judge-table.ensures, c.enum_told.given.1) }
 
 pub accept-spec : {M : Type 1} → statement M
 accept-spec =
-    tie.close (tie.spec
-    (λ c κs. search rules)
+    tie.close
+    (tie.spec
+    permitted-requires
     returns
-    (λ c κs. search rules)
+    table-log-requires
     returns-2
     judge-table-requires
-    (λ c. search rules)
+    enum-known-entry
     returns-3
-    (λ c. search rules)
+    enum_told
     returns-4)

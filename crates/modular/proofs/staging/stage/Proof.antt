@@ -1,30 +1,50 @@
--- What was judged 0 is given to the stage, and a refusal writes nothing.
-use Prim.Native.Nat.{ℕ}
-use mathlib.Core.Path.{refl}
-use Rattle.modular_judgement.specs.Ready.{stage_ready}
-use Rattle.answer.specs.Verdict.{Passes, done_passes, did_work, did_refuse}
-use borrow.Author.Tests.{ltb-true}
+use mathlib.Core.Path.{◌≡◌}
+use Rattle.answer.specs.Lengths.{log_of}
+use Rattle.modular_judgement.specs.Ready.{Ready, stage_ready, offers_stage_range}
+use Rattle.modular.proofs.Leaving.{refused, worked}
+use Prim.Native.Nat.{◌<◌}
 use lib.ListN.{length}
-use Rattle.modular_judgement.specs.Verdicts.{stage_lines}
+use mathlib.Core.Bool.{true}
+use Rattle.modular_judgement.specs.Verdicts.{offers_stage, scratch_fits}
 use borrow.Author.Rules.{rules}
 use Rattle.modular.proofs.staging.stage.Statement.{statement}
 use Rattle.modular.proofs.staging.stage.Tie as tie
+use Rattle.modular.proofs.staging.stage.Reads as reads
+use Rattle.modular.proofs.staging.stage.Lts as lts
+use Rattle.answer.proofs.log_of.Reads as log-of-reads
+use Rattle.modular_judgement.proofs.judge_stage.Reads as judge-stage-reads
+use Rattle.modular_work.proofs.do_stage.Reads as do-stage-reads
 
 -- The judgement was passed.
-passes : (c : tie.Else1) →
-    (let s = c.before.before.before.before.before.before.before.args in (j : ℕ) → Passes (stage_lines s.schedule s.s s.buf.now s.m s.table.now (length s.scratch.now)) j)
-passes c = done_passes _ refl (rw c.before.before.judge-stage.ensures at c.if1.false)
+ready : (c : tie.Else1) → (let s = c.before.before.before.before.before.before.before.args in (offers_stage s.schedule ≡ true) × (s.s < log_of (length s.buf.now)) × (Ready s.buf.now s.m s.table.now) × (scratch_fits s.schedule (length s.scratch.now) (length s.buf.now) ≡ true))
+ready c = stage_ready _ _ _ _ _ _ (rw c.before.before.judge-stage.ensures at c.if1.false)
+
+judge-stage-requires : tie.Need-judge-stage-requires
+judge-stage-requires c κs = search rules
+
+same_length : tie.Need-same-length
+same_length c = search rules
 
 returns : tie.Need-returns
 returns c =
     let e = c.before.before.judge-stage.ensures in
-    record { did = did_refuse e c.if1.true refl }
+    record { answers = e; leaves = refused e c.if1.true _ _; clears = refused e c.if1.true _ _ }
 
-one-stage-requires : tie.Need-one-stage-requires
-one-stage-requires c κs =
-    let p = passes c.before.before.before in
+log-of-requires : tie.Need-log-of-requires
+log-of-requires c κs = search rules
+
+do-stage-requires : tie.Need-do-stage-requires
+do-stage-requires c κs =
+    let r = ready c.before.before.before in
     let n = c.before.before.log_of.ensures in
-    (rw n (stage_ready _ _ _ _ _ _ p).given, (rw n (ltb-true _ _ (p 8)), record { offered = p 7; room = p 6 }))
+    let range = offers_stage_range _ r.0 in
+    (r.2.judged, ((rw n r.1, rw n r.2.whole, rw n r.2.half), (range.0, range.1, r.3)))
+
+same-length-2 : tie.Need-same-length-2
+same-length-2 c = search rules
+
+same-length-3 : tie.Need-same-length-3
+same-length-3 c = search rules
 
 returns-2 : tie.Need-returns-2
 returns-2 c =
@@ -32,14 +52,17 @@ returns-2 c =
     let n = w.before.before.before.log_of.ensures in
     let i = w.before.before.before.before in
     let e = i.before.before.judge-stage.ensures in
-    record { did = did_work e i.if1.false (rw (rw n at w.one-stage.ensures.0, w.one-stage.ensures.1)) }
+    record { answers = e; leaves = worked e i.if1.false _ _ (rw n at w.do-stage.ensures.0); clears = worked e i.if1.false _ _ w.do-stage.ensures.1 }
 
 pub stage-spec : {M : Type 1} → statement M
 stage-spec =
-    tie.close (tie.spec
-    (λ c κs. search rules) (λ c. search rules)
+    tie.close
+    (tie.spec
+    judge-stage-requires
+    same_length
     returns
-    (λ c κs. search rules)
-    one-stage-requires
-    (λ c. search rules) (λ c. search rules)
+    log-of-requires
+    do-stage-requires
+    same-length-2
+    same-length-3
     returns-2)

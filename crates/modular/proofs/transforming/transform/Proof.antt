@@ -1,28 +1,49 @@
--- What was judged 0 is given to the schedule, and a refusal writes nothing.
-use Prim.Native.Nat.{ℕ}
-use mathlib.Core.Path.{refl}
-use Rattle.modular_judgement.specs.Ready.{transform_ready}
-use Rattle.answer.specs.Verdict.{Passes, done_passes, did_work, did_refuse}
+use mathlib.Core.Path.{◌≡◌}
+use Rattle.answer.specs.Lengths.{log_of}
+use Rattle.modular_judgement.specs.Ready.{Ready, transform_ready, offers_range}
+use Rattle.modular.proofs.Leaving.{refused, worked}
 use lib.ListN.{length}
-use Rattle.modular_judgement.specs.Verdicts.{transform_lines}
+use mathlib.Core.Bool.{true}
+use Rattle.modular_judgement.specs.Verdicts.{offers, scratch_fits}
 use borrow.Author.Rules.{rules}
 use Rattle.modular.proofs.transforming.transform.Statement.{statement}
 use Rattle.modular.proofs.transforming.transform.Tie as tie
+use Rattle.modular.proofs.transforming.transform.Reads as reads
+use Rattle.modular.proofs.transforming.transform.Lts as lts
+use Rattle.answer.proofs.log_of.Reads as log-of-reads
+use Rattle.modular_judgement.proofs.judge_transform.Reads as judge-transform-reads
+use Rattle.modular_work.proofs.do_schedule.Reads as do-schedule-reads
 
 -- The judgement was passed.
-passes : (c : tie.Else1) →
-    (let s = c.before.before.before.before.before.before.before.args in (j : ℕ) → Passes (transform_lines s.schedule s.buf.now s.m s.table.now (length s.scratch.now)) j)
-passes c = done_passes _ refl (rw c.before.before.judge-transform.ensures at c.if1.false)
+ready : (c : tie.Else1) → (let s = c.before.before.before.before.before.before.before.args in (offers s.schedule ≡ true) × (Ready s.buf.now s.m s.table.now) × (scratch_fits s.schedule (length s.scratch.now) (length s.buf.now) ≡ true))
+ready c = transform_ready _ _ _ _ _ (rw c.before.before.judge-transform.ensures at c.if1.false)
+
+judge-transform-requires : tie.Need-judge-transform-requires
+judge-transform-requires c κs = search rules
+
+same_length : tie.Need-same-length
+same_length c = search rules
 
 returns : tie.Need-returns
 returns c =
     let e = c.before.before.judge-transform.ensures in
-    record { did = did_refuse e c.if1.true refl }
+    record { answers = e; leaves = refused e c.if1.true _ _; clears = refused e c.if1.true _ _ }
 
-by-schedule-requires : tie.Need-by-schedule-requires
-by-schedule-requires c κs =
-    let p = passes c.before.before.before in
-    (rw c.before.before.log_of.ensures (transform_ready _ _ _ _ _ p).given, record { offered = p 7; room = p 6 })
+log-of-requires : tie.Need-log-of-requires
+log-of-requires c κs = search rules
+
+do-schedule-requires : tie.Need-do-schedule-requires
+do-schedule-requires c κs =
+    let r = ready c.before.before.before in
+    let n = c.before.before.log_of.ensures in
+    let range = offers_range _ r.0 in
+    (r.1.judged, ((rw n r.1.some, rw n r.1.whole, rw n r.1.half), (range.0, range.1, r.2)))
+
+same-length-2 : tie.Need-same-length-2
+same-length-2 c = search rules
+
+same-length-3 : tie.Need-same-length-3
+same-length-3 c = search rules
 
 returns-2 : tie.Need-returns-2
 returns-2 c =
@@ -30,14 +51,17 @@ returns-2 c =
     let n = w.before.before.before.log_of.ensures in
     let i = w.before.before.before.before in
     let e = i.before.before.judge-transform.ensures in
-    record { did = did_work e i.if1.false (rw (rw n at w.by_schedule.ensures.0, w.by_schedule.ensures.1)) }
+    record { answers = e; leaves = worked e i.if1.false _ _ (rw n at w.do-schedule.ensures.0); clears = worked e i.if1.false _ _ w.do-schedule.ensures.1 }
 
 pub transform-spec : {M : Type 1} → statement M
 transform-spec =
-    tie.close (tie.spec
-    (λ c κs. search rules) (λ c. search rules)
+    tie.close
+    (tie.spec
+    judge-transform-requires
+    same_length
     returns
-    (λ c κs. search rules)
-    by-schedule-requires
-    (λ c. search rules) (λ c. search rules)
+    log-of-requires
+    do-schedule-requires
+    same-length-2
+    same-length-3
     returns-2)

@@ -1,0 +1,3 @@
+-- Laws that serve proofs of code.
+pub mod Reversal
+pub mod Exponents

@@ -1,0 +1,168 @@
+-- A text that is written piece by piece from its end.
+use Prim.Native.Nat.{ℕ, suc, ◌+◌, ◌-◌, ◌*◌, ◌/◌, ◌%◌, ◌<◌, ◌≤◌}
+use mathlib.Core.Path.{◌≡◌, sym, ap, ◌∙◌}
+use mathlib.Core.List.{List, [], ◌∷◌, ◌++◌, append_assoc, append-nil}
+use native.Mathlib.Nat.{le_refl}
+use native.Mathlib.Omega.{arith}
+use lib.ListN.{length, get_or, set, take, drop, length-append, length-drop, take-append-drop}
+use lib.Seq.{set_split, length-take-le, take-take, take-append-le, drop_at, drop-length, drop-cons, length-sets, take_at}
+use Rattle.answer.specs.declared.Answer.{Answer}
+use Rattle.reading.specs.Requests.{printed}
+use Rattle.request.specs.Outcomes.{RequestOutcome}
+use Rattle.reading.specs.Theorems.{results_few}
+use Rattle.reading.proofs.Steps.{sets_front}
+use Rattle.line.specs.Lines.{decimal, spaced, line, decimal-one, decimal_more, decimal_few}
+use Rattle.line.specs.Outcomes.{Stands}
+
+-- ---- pieces
+
+pub put_none : (p : ℕ) (out : List ℕ) → Stands [] p out p out
+put_none p out = record { starts = omega arith; leaves = rw append-nil (sym (take-append-drop p out)) }
+
+pub put_byte : (byte q : ℕ) (out : List ℕ) → q < length out → Stands (byte ∷ []) (suc q) out q (set out q byte)
+put_byte byte q out h = record { starts = omega arith; leaves = set_split out q byte h ∙ sym (append_assoc (take q out) (byte ∷ []) (drop (suc q) out)) }
+
+module _ {text : List ℕ} {p q : ℕ} {out out' : List ℕ} (r : Stands text p out q out') (h : p ≤ length out) where
+  front : length (take q out) ≡ q
+  front = length-take-le q out (omega (arith, r.starts))
+
+  pub put-length : length out' ≡ length out
+  put-length =
+      ap length r.leaves ∙ length-append (take q out ++ text) (drop p out)
+      ∙ omega (arith, length-append (take q out) text, front, length-drop p out, r.starts)
+
+  -- A piece in front of another.
+  pub put-put : {more : List ℕ} {o : ℕ} {out'' : List ℕ} → Stands more q out' o out'' → Stands (more ++ text) p out o out''
+  put-put {more} {o} s =
+      let same : take o out' ≡ take o out = rw (r.leaves, append_assoc) (take-append-le o (take q out) (text ++ drop p out) (omega (arith, front, s.starts)) ∙ take-take o q out (omega (arith, s.starts))) in
+      let rest : drop q out' ≡ text ++ drop p out = rw (r.leaves, append_assoc) (drop_at (take q out) (text ++ drop p out) q front) in
+      record {
+        starts = omega (arith, r.starts, s.starts, length-append more text);
+        leaves = s.leaves ∙ rw (same, rest) (simp append_assoc);
+      }
+
+-- ---- a number in decimal
+
+-- Of v, whose digits are to stand in front of p, those of rest are left to be written in front of q.
+pub record Spelling (v p : ℕ) (out out' : List ℕ) (rest q : ℕ) : Type 0 where
+  pub text : List ℕ
+  pub put : Stands text p out q out'
+  pub left : decimal rest ++ text ≡ decimal v
+  pub small : rest < 18446744073709551616
+  pub room : (20 ≤ p) × (p ≤ length out)
+
+pub spelling_none : (v p : ℕ) (out : List ℕ) → v < 18446744073709551616 → 20 ≤ p → p ≤ length out → Spelling v p out out v p
+spelling_none v p out small room h = record { text = []; put = put_none p out; left = append-nil (decimal v); small = small; room = (room, h) }
+
+-- There is a place in front of q, and it lies in the buffer.
+pub spelling_some : {v p : ℕ} {out out' : List ℕ} {rest q : ℕ} → Spelling v p out out' rest q → (q ≡ suc (q - 1)) × (q - 1 < length out')
+spelling_some {v} {rest = rest} r =
+    let few = decimal_few rest in
+    let all = ap length r.left in
+    let size = length-append (decimal rest) r.text in
+    (omega (arith, r.put.starts, decimal_few v, r.room), omega (arith, r.put.starts, decimal_few v, r.room, put-length r.put r.room.1))
+
+module _ {v p : ℕ} {out out' : List ℕ} {rest q : ℕ} (r : Spelling v p out out' rest q) where
+  -- A digit in front of those that stand.
+  digit : (d : ℕ) → Stands (d ∷ r.text) p out (q - 1) (set out' (q - 1) d)
+  digit d = put-put r.put r.room.1 (rw (← (spelling_some r).0) at (put_byte d (q - 1) out' (spelling_some r).1))
+
+  pub spelling_more : 10 ≤ rest → Spelling v p out (set out' (q - 1) (48 + rest % 10)) (rest / 10) (q - 1)
+  spelling_more h =
+      record {
+        text = (48 + rest % 10) ∷ r.text;
+        put = digit (48 + rest % 10);
+        left = sym (append_assoc (decimal (rest / 10)) ((48 + rest % 10) ∷ []) r.text) ∙ rw (decimal_more rest h r.small) at r.left;
+        small = omega (arith, r.small);
+        room = r.room;
+      }
+
+  pub spelled : rest < 10 → Stands (decimal v) p out (q - 1) (set out' (q - 1) (48 + rest))
+  spelled h = rw (rw (decimal-one rest h) at r.left) at (digit (48 + rest))
+
+-- A space in front of it.
+module _ (v : ℕ) {p q : ℕ} {out out' : List ℕ} (r : Stands (decimal v) p out q out') (low : 21 ≤ p) (high : p ≤ length out) where
+  pub space_room : (q ≡ suc (q - 1)) × (q - 1 < length out')
+  space_room = (omega (arith, r.starts, decimal_few v), omega (arith, r.starts, decimal_few v, put-length r high))
+
+  pub put_space : Stands (32 ∷ decimal v) p out (q - 1) (set out' (q - 1) 32)
+  put_space = put-put r high (rw (← space_room.0) at (put_byte 32 (q - 1) out' space_room.1))
+
+-- ---- several numbers, with spaces
+
+spaced_few : (l : List ℕ) → length (spaced l) ≤ 21 * length l
+unfolding spaced
+spaced_few [] = omega arith
+spaced_few (v ∷ l) = omega (arith, decimal_few v, spaced_few l, length-append (decimal v) (spaced l))
+
+-- The numbers from i on are written in front of p.
+pub record Listing (numbers : List ℕ) (p : ℕ) (out out' : List ℕ) (i q : ℕ) : Type 0 where
+  pub put : Stands (spaced (drop i numbers)) p out q out'
+  pub within : i ≤ length numbers
+
+pub listing_none : (numbers : List ℕ) (p : ℕ) (out : List ℕ) → Listing numbers p out out (length numbers) p
+unfolding spaced
+listing_none numbers p out = record { put = rw drop-length (put_none p out); within = le_refl (length numbers) }
+
+module _ {numbers : List ℕ} {p : ℕ} {out out' : List ℕ} {i q : ℕ} (r : Listing numbers p out out' i q) (high : p ≤ length out) where
+  -- There is room for those that are left.
+  pub listing_room : 41 + 21 * length numbers ≤ p → (41 + 21 * i ≤ q) × (q ≤ length out')
+  listing_room h =
+      (omega (arith, r.put.starts, spaced_few (drop i numbers), length-drop i numbers, r.within), omega (arith, r.put.starts, put-length r.put high))
+
+  pub listing_more : {j o : ℕ} {out'' : List ℕ} → i ≡ suc j → Stands (32 ∷ decimal (get_or numbers j 0)) q out' o out'' → Listing numbers p out out'' j o
+  unfolding spaced
+  listing_more {j} e s =
+      let h : j < length numbers = omega (arith, r.within) in
+      record { put = rw (drop-cons numbers j 0 h) (rw e at (put-put r.put high s)); within = omega arith }
+
+  pub listing_all : i ≤ 0 → Stands (spaced numbers) p out q out'
+  listing_all h = let e : i ≡ 0 = omega arith in rw e at r.put
+
+-- ---- the line
+
+pub few : (count : ℕ) (results : List ℕ) {room : ℕ} → count ≤ length results → 42 + 21 * count ≤ room → 42 + 21 * length (take count results) ≤ room
+few count results h l = rw (length-take-le count results h) l
+
+module _ (out l : List ℕ) (few : 42 + 21 * length l ≤ length out) where
+  -- The newline at the end.
+  newline : Stands (10 ∷ []) (length out) out (length out - 1) (set out (length out - 1) 10)
+  newline = let e : suc (length out - 1) ≡ length out = omega arith in rw e at (put_byte 10 (length out - 1) out (omega arith))
+
+  module _ {q : ℕ} {out₁ : List ℕ} (results : Stands (spaced l) (length out - 1) (set out (length out - 1) 10) q out₁) where
+    behind : Stands (spaced l ++ 10 ∷ []) (length out) out q out₁
+    behind = put-put newline (le_refl (length out)) results
+
+    pub place_room : (21 ≤ q) × (q ≤ length out₁)
+    place_room = (omega (arith, results.starts, spaced_few l), omega (arith, results.starts, put-length behind (le_refl (length out))))
+
+    module _ (place : ℕ) {r : ℕ} {out₂ : List ℕ} (spelt : Stands (32 ∷ decimal place) q out₁ r out₂) where
+      pub number-room : (20 ≤ r) × (r ≤ length out₂)
+      number-room =
+          (omega (arith, results.starts, spelt.starts, spaced_few l, decimal_few place), omega (arith, spelt.starts, place_room.1, put-length spelt place_room.1))
+
+      pub put-line : (number : ℕ) {t : ℕ} {out₃ : List ℕ} → Stands (decimal number) r out₂ t out₃ →
+          Stands (line (record { answer = record { number = number; place = place }; results = l })) (length out) out t out₃
+      unfolding line spaced
+      put-line number s =
+          let all = put-put (put-put behind (le_refl (length out)) spelt) (le_refl (length out)) s in
+          let text : decimal number ++ (32 ∷ decimal place ++ (spaced l ++ 10 ∷ [])) ≡ decimal number ++ (32 ∷ decimal place ++ spaced l) ++ 10 ∷ [] = simp append_assoc in
+          rw text at all
+
+-- ---- what a request leaves
+
+module _ (input : List ℕ) {results : List ℕ} {answer : Answer} {count : ℕ} {results' : List ℕ} (memory : 4096 ≡ length results) (r : RequestOutcome input results answer count results') where
+  pub memory_kept : 4096 ≡ length results'
+  memory_kept = memory ∙ sym (ap length r.leaves ∙ length-sets results 0 (printed input).results)
+
+  -- The results lie in the memory, and are not many.
+  pub results_fit : (count ≤ length results') × (count ≤ 4096)
+  results_fit = (omega (arith, memory_kept, r.counts, results_few input), omega (arith, r.counts, results_few input))
+
+  -- They are read back from there.
+  pub results_read : record { answer = answer; results = take count results' } ≡ printed input
+  results_read =
+      let fit : count ≤ length results = omega (arith, results_fit, memory_kept, memory) in
+      let front = r.leaves ∙ sets_front results (printed input).results count (sym r.counts) fit in
+      let read = ap (take count) front ∙ take_at (printed input).results (drop count results) count (sym r.counts) in
+      λ i. record { answer = r.answers i; results = read i }

@@ -1,0 +1,17 @@
+use borrow.Author.Tests.{le-leb, lt-leb}
+use Rattle.modular_judgement.specs.Verdicts.{offers}
+use Rattle.modular_judgement.proofs.offered.Statement.{statement}
+use Rattle.modular_judgement.proofs.offered.Tie as tie
+use Rattle.modular_judgement.proofs.offered.Reads as reads
+use Rattle.modular_judgement.proofs.offered.Lts as lts
+
+returns : tie.Need-returns
+unfolding offers
+returns c = rw (lt-leb 1 _ c.if1.true)
+
+returns-2 : tie.Need-returns-2
+unfolding offers
+returns-2 c = rw (le-leb 1 _ c.if1.false)
+
+pub offered-spec : {M : Type 1} → statement M
+offered-spec = tie.close (tie.spec returns returns-2)

@@ -1,2 +1,0 @@
--- Single stages by their schedule's number.
-pub mod Stages

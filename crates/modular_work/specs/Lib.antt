@@ -1,0 +1,2 @@
+-- What the work of a schedule leaves.
+pub mod Works

@@ -1,4 +1,0 @@
--- Laws that serve proofs of code.
-pub mod Carries
-pub mod Exponents
-pub mod Bits

@@ -1,0 +1,59 @@
+-- Signed numbers that a width holds: what the leaves work out, and what they round.
+use Prim.Native.Nat.{ℕ, suc, ◌+◌, ◌*◌, ◌/◌, ◌^◌, ◌<◌, ◌≤◌}
+use mathlib.Core.Path.{◌≡◌, ◌∙◌}
+use native.Mathlib.Nat.{le_refl, le_trans, lt_of_le_of_lt, mul-le-mul}
+use native.Mathlib.Omega.{arith}
+use lib.Dec.{T, ltb, ltb→lt}
+use lib.IntN.{ℤ, pos, negsuc, nat_abs, ◌+ℤ◌, ◌-ℤ◌, ◌*ℤ◌}
+use lib.Signed.{mag}
+use mir.Syntax.{Width, w32, w64}
+use mir.Val.{SFits, hbits, to_z, of_z}
+use mir.ValLaws.{to_z-of_z}
+use Rattle.algebra.specs.Integers.{nat_abs-add, nat_abs-sub, nat_abs_mul}
+use Rattle.points.specs.Rounding.{half_up, half_up_half}
+use Rattle.points.specs.Growth.{round_size}
+
+mag_size : (z : ℤ) → mag z ≤ nat_abs z
+mag_size (pos n) = le_refl n
+mag_size (negsuc n) = omega arith
+
+-- A number whose size is at most a numeral that the width holds: `fits z h tt`.
+pub fits : {w : Width} {m : ℕ} (z : ℤ) → nat_abs z ≤ m → T (ltb m (2 ^ hbits w)) → SFits w z
+fits {w} {m} z h t = record { sfits = lt_of_le_of_lt (le_trans (mag_size z) h) (ltb→lt m (2 ^ hbits w) t) }
+
+-- An i32 is an i64.
+pub fits_wide : {z : ℤ} → SFits w32 z → SFits w64 z
+fits_wide h = record { sfits = omega arith }
+
+-- What a call gave is kept in bits and read back: `back w c.f.ok c.f.ensures`, where f ensures r ≡ x.
+pub back : (w : Width) {r x : ℤ} → mag r < 2 ^ hbits w → r ≡ x → to_z w (of_z w r) ≡ x
+back w {r} h e = to_z-of_z w r (record { sfits = h }) ∙ e
+
+-- What is held on the way from v to the floor of (v + D/2)/D.
+pub record Rounds (w : Width) (D : ℕ) (z : ℤ) : Type 0 where
+  pub whole : SFits w z
+  pub raised : (k : ℕ) → k ≤ D / 2 → SFits w (z +ℤ pos k)
+  pub result : SFits w32 (half_up D z)
+
+rounds : {w : Width} (D m k : ℕ) (z : ℤ) → nat_abs z ≤ m → T (ltb (m + D / 2) (2 ^ hbits w)) → T (ltb 0 D) → T (ltb (2 * m + D) (2 * (D * suc k))) → T (ltb k (2 ^ hbits w32)) → Rounds w D z
+rounds D m k z h room pos-D small top = record {
+  whole = let g : nat_abs z ≤ m + D / 2 = omega arith in fits z g room;
+  raised = λ i l. let g : nat_abs (z +ℤ pos i) ≤ m + D / 2 = omega (arith, nat_abs-add z (pos i)) in fits (z +ℤ pos i) g room;
+  result = fits (half_up D z) (round_size half_up_half D m k z (ltb→lt 0 D pos-D) (ltb→lt (2 * m + D) (2 * (D * suc k)) small) h) top;
+}
+
+pub half_rounds : (a b : ℤ) → nat_abs a ≤ 2 ^ 22 → nat_abs b ≤ 2 ^ 22 → Rounds w32 2 (a +ℤ b)
+half_rounds a b h l = rounds 2 (2 ^ 23) (2 ^ 22) (a +ℤ b) (omega (arith, nat_abs-add a b)) tt tt tt tt
+
+pub reduced_rounds : (x y : ℤ) → nat_abs x + nat_abs y ≤ 23171 * 2 ^ 23 → Rounds w64 32768 (x +ℤ y)
+reduced_rounds x y h = rounds 32768 (23171 * 2 ^ 23) (2 ^ 23) (x +ℤ y) (omega (arith, nat_abs-add x y)) tt tt tt tt
+
+-- What is held on the way to c (a - b).
+pub record Product (c a b : ℤ) : Type 0 where
+  pub difference : SFits w32 (a -ℤ b)
+  pub whole : SFits w64 (c *ℤ (a -ℤ b))
+
+pub product_held : (c a b : ℤ) → nat_abs c ≤ 23171 → nat_abs a ≤ 2 ^ 22 → nat_abs b ≤ 2 ^ 22 → Product c a b
+product_held c a b k h l =
+    let d : nat_abs (a -ℤ b) ≤ 2 ^ 23 = omega (arith, nat_abs-sub a b) in
+    record { difference = fits (a -ℤ b) d tt; whole = fits {m = 23171 * 2 ^ 23} (c *ℤ (a -ℤ b)) (rw nat_abs_mul (mul-le-mul k d)) tt }

@@ -1,0 +1,4 @@
+-- Laws that serve proofs of code.
+pub mod Buffers
+pub mod Sizes
+pub mod Blocks

@@ -1,0 +1,9 @@
+// Schedules 1, 2 and 3 in fixed point.
+mod columns;
+mod halves;
+mod moves;
+mod shuffle;
+
+pub use columns::by_columns;
+pub use halves::by_halves;
+pub use shuffle::by_shuffle;

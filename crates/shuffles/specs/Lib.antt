@@ -1,0 +1,2 @@
+-- What the stages by shuffle compute.
+pub mod Stages

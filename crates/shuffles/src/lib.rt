@@ -1,0 +1,7 @@
+// Schedules 2 and 5 over residues: stages from one buffer into the other.
+mod moves;
+mod stages;
+mod turns;
+
+pub use moves::copy;
+pub use turns::{by_pease, by_shuffle, single};

@@ -1,0 +1,6 @@
+// Tables in fixed point: their rules and acceptance.
+mod accepting;
+mod judging;
+
+pub use accepting::accept;
+pub use judging::judge_table;
