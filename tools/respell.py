@@ -12,7 +12,7 @@ import sys
 
 SIGNATURE = re.compile(r"^(\s*)((?:abbrev |unfoldable |pub |data |record )*)([^\s:{(λ]+)((?:\s+\{[^}]*\}|\s+\([^)]*\))*)\s*:\s(.*)$")
 # Names of the library that stand in names of lemmas.
-LIBRARY = set("nat_abs length take drop set get_or append map reverse mul add sub pow neg min max".split())
+LIBRARY = set("zero suc nat_abs length take drop set get_or append map reverse mul add sub pow neg min max".split())
 TOKEN = re.compile(r"[^\s(){}\[\],;.:`\"|]+")
 
 

@@ -29,7 +29,7 @@ module _ (m : ℕ) (pos : 0 < m) where
         of = residue;
         plus_assoc = λ a b c. mod_path (simp (N.mod-add-mod, N.add-mod-mod, N.add_assoc));
         plus_comm = λ a b. mod_path (simp N.add_comm);
-        plus_zero = λ a. mod_path (simp (N.zero-mod, N.add-zero) (N.mod-eq_of_lt a.1));
+        plus-zero = λ a. mod_path (simp (N.zero-mod, N.add-zero) (N.mod-eq_of_lt a.1));
         plus-neg = λ a. mod_path (simp (N.add-mod-mod, N.zero-mod) (rw (N.add-sub_of_le (N.le_of_lt a.1)) (N.mod_self m)));
         times_assoc = λ a b c. mod_path (simp (mod_mul_left, mod_mul_right, N.mul_assoc));
         times_comm = λ a b. mod_path (simp N.mul_comm);

@@ -12,7 +12,7 @@ pub record Ring (K : Type 0) : Type 0 where
   pub of : ℕ → K
   pub plus_assoc : (a b c : K) → a ⊕ b ⊕ c ≡ a ⊕ (b ⊕ c)
   pub plus_comm : (a b : K) → a ⊕ b ≡ b ⊕ a
-  pub plus_zero : (a : K) → a ⊕ of 0 ≡ a
+  pub plus-zero : (a : K) → a ⊕ of 0 ≡ a
   pub plus-neg : (a : K) → a ⊕ neg a ≡ of 0
   pub times_assoc : (a b c : K) → a ⊗ b ⊗ c ≡ a ⊗ (b ⊗ c)
   pub times_comm : (a b : K) → a ⊗ b ≡ b ⊗ a
@@ -24,10 +24,10 @@ pub record Ring (K : Type 0) : Type 0 where
 module _ {K : Type 0} (R : Ring K) where
   infixl 65 ◌⊕◌
   infixl 70 ◌⊗◌
-  open R use {◌⊕◌, ◌⊗◌, neg, of, plus_assoc, plus_comm, plus_zero, plus-neg, times_assoc, times_comm, times-one, times-plus}
+  open R use {◌⊕◌, ◌⊗◌, neg, of, plus_assoc, plus_comm, plus-zero, plus-neg, times_assoc, times_comm, times-one, times-plus}
 
-  pub zero_plus : (a : K) → of 0 ⊕ a ≡ a
-  zero_plus a = plus_comm (of 0) a ∙ plus_zero a
+  pub zero-plus : (a : K) → of 0 ⊕ a ≡ a
+  zero-plus a = plus_comm (of 0) a ∙ plus-zero a
 
   pub one-times : (a : K) → of 1 ⊗ a ≡ a
   one-times a = times_comm (of 1) a ∙ times-one a
@@ -42,20 +42,20 @@ module _ {K : Type 0} (R : Ring K) where
   plus_times a b c = times_comm (a ⊕ b) c ∙ times-plus c a b ∙ rw (times_comm c a, times_comm c b)
 
   pub neg-plus_cancel : (a b : K) → neg a ⊕ (a ⊕ b) ≡ b
-  neg-plus_cancel a b = sym (plus_assoc (neg a) a b) ∙ rw (plus_comm (neg a) a, plus-neg a) (zero_plus b)
+  neg-plus_cancel a b = sym (plus_assoc (neg a) a b) ∙ rw (plus_comm (neg a) a, plus-neg a) (zero-plus b)
 
   -- What added to a gives zero is its negative.
   pub neg_unique : (a b : K) → a ⊕ b ≡ of 0 → b ≡ neg a
-  neg_unique a b h = sym (neg-plus_cancel a b) ∙ rw h (plus_zero (neg a))
+  neg_unique a b h = sym (neg-plus_cancel a b) ∙ rw h (plus-zero (neg a))
 
   pub neg-neg : (a : K) → neg (neg a) ≡ a
   neg-neg a = sym (neg_unique (neg a) a (plus_comm (neg a) a ∙ plus-neg a))
 
   pub times_zero : (a : K) → a ⊗ of 0 ≡ of 0
-  times_zero a = sym (neg-plus_cancel (a ⊗ of 0) (a ⊗ of 0)) ∙ rw (← times-plus a (of 0) (of 0), plus_zero (of 0)) (plus_comm (neg (a ⊗ of 0)) (a ⊗ of 0) ∙ plus-neg (a ⊗ of 0))
+  times_zero a = sym (neg-plus_cancel (a ⊗ of 0) (a ⊗ of 0)) ∙ rw (← times-plus a (of 0) (of 0), plus-zero (of 0)) (plus_comm (neg (a ⊗ of 0)) (a ⊗ of 0) ∙ plus-neg (a ⊗ of 0))
 
-  pub zero_times : (a : K) → of 0 ⊗ a ≡ of 0
-  zero_times a = times_comm (of 0) a ∙ times_zero a
+  pub zero-times : (a : K) → of 0 ⊗ a ≡ of 0
+  zero-times a = times_comm (of 0) a ∙ times_zero a
 
   pub times-neg : (a b : K) → a ⊗ neg b ≡ neg (a ⊗ b)
   times-neg a b = neg_unique (a ⊗ b) (a ⊗ neg b) (sym (times-plus a b (neg b)) ∙ rw (plus-neg b) (times_zero a))

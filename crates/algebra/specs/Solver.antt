@@ -7,7 +7,7 @@ use Rattle.std.proofs.Math.Bool.{true, false}
 use Rattle.std.specs.Bool.{beq}
 use mathlib.Core.List.{List, [], ◌∷◌}
 use Rattle.algebra.specs.Gaps.{cond_either}
-use Rattle.algebra.specs.Ring.{Ring, zero_plus, one-times, plus_left_comm, times_left_comm, plus_times, neg-plus_cancel, neg-neg, times_zero, zero_times, times-neg, neg-times}
+use Rattle.algebra.specs.Ring.{Ring, zero-plus, one-times, plus_left_comm, times_left_comm, plus_times, neg-plus_cancel, neg-neg, times_zero, zero-times, times-neg, neg-times}
 
 -- ---- expressions
 
@@ -80,7 +80,7 @@ normal (:neg a) = scale false [] (normal a)
 module _ {K : Type 0} (R : Ring K) (ρ : List K) where
   infixl 65 ◌⊕◌
   infixl 70 ◌⊗◌
-  open R use {◌⊕◌, ◌⊗◌, neg, of, plus_assoc, plus_zero, plus-neg, times_assoc, times-one, times-plus}
+  open R use {◌⊕◌, ◌⊗◌, neg, of, plus_assoc, plus-zero, plus-neg, times_assoc, times-one, times-plus}
 
   abbrev pub look : List K → ℕ → K
   look [] n = of 0
@@ -158,7 +158,7 @@ module _ {K : Type 0} (R : Ring K) (ρ : List K) where
 
   worth_add : (p q : Polynomial) → worth (add p q) ≡ worth p ⊕ worth q
   unfolding worth
-  worth_add none q = sym (zero_plus R (worth q))
+  worth_add none q = sym (zero-plus R (worth q))
   worth_add (term s m p) q = worth_put s m (add p q) ∙ ap (λ y. signed s (product m) ⊕ y) (worth_add p q) ∙ sym (plus_assoc (signed s (product m)) (worth p) (worth q))
 
   worth_scale : (s : Bool) (m : List ℕ) (p : Polynomial) → worth (scale s m p) ≡ signed s (product m) ⊗ worth p
@@ -171,7 +171,7 @@ module _ {K : Type 0} (R : Ring K) (ρ : List K) where
 
   worth_multiply : (p q : Polynomial) → worth (multiply p q) ≡ worth p ⊗ worth q
   unfolding worth
-  worth_multiply none q = sym (zero_times R (worth q))
+  worth_multiply none q = sym (zero-times R (worth q))
   worth_multiply (term s m p) q =
       worth_add (scale s m q) (multiply p q) ∙ ap₂ ◌⊕◌ (worth_scale s m q) (worth_multiply p q) ∙ sym (plus_times R (signed s (product m)) (worth p) (worth q))
 
@@ -181,9 +181,9 @@ module _ {K : Type 0} (R : Ring K) (ρ : List K) where
 
   worth_normal : (a : Expression) → worth (normal a) ≡ value a
   unfolding worth signed product
-  worth_normal (v n) = plus_zero (look ρ n ⊗ of 1) ∙ times-one (look ρ n)
+  worth_normal (v n) = plus-zero (look ρ n ⊗ of 1) ∙ times-one (look ρ n)
   worth_normal :0 = refl
-  worth_normal :1 = plus_zero (of 1)
+  worth_normal :1 = plus-zero (of 1)
   worth_normal (a :+ b) = worth_add (normal a) (normal b) ∙ ap₂ ◌⊕◌ (worth_normal a) (worth_normal b)
   worth_normal (a :- b) = worth_add (normal a) (scale false [] (normal b)) ∙ ap₂ ◌⊕◌ (worth_normal a) (worth_neg (normal b) ∙ ap neg (worth_normal b))
   worth_normal (a :* b) = worth_multiply (normal a) (normal b) ∙ ap₂ ◌⊗◌ (worth_normal a) (worth_normal b)

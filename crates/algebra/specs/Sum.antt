@@ -20,7 +20,7 @@ total_cong (suc n) h = ap₂ ◌+◌ (total_cong n (λ i l. h i (N.le_step l))) 
 module _ {K : Type 0} (R : Ring K) where
   infixl 65 ◌⊕◌
   infixl 70 ◌⊗◌
-  open R use {◌⊕◌, ◌⊗◌, of, plus_assoc, plus_zero, times_assoc, times-one, of_plus, of_times}
+  open R use {◌⊕◌, ◌⊗◌, of, plus_assoc, plus-zero, times_assoc, times-one, of_plus, of_times}
 
   -- x to the n.
   unfoldable pub pow : K → ℕ → K
@@ -34,42 +34,42 @@ module _ {K : Type 0} (R : Ring K) where
 
   -- ---- powers
 
-  pub pow_zero : (x : K) → pow x 0 ≡ of 1
+  pub pow-zero : (x : K) → pow x 0 ≡ of 1
   unfolding pow
-  pow_zero x = refl
+  pow-zero x = refl
 
-  pub pow_suc : (x : K) (n : ℕ) → pow x (suc n) ≡ pow x n ⊗ x
+  pub pow-suc : (x : K) (n : ℕ) → pow x (suc n) ≡ pow x n ⊗ x
   unfolding pow
-  pow_suc x n = refl
+  pow-suc x n = refl
 
   pub pow-one : (x : K) → pow x 1 ≡ x
   unfolding pow
   pow-one x = one-times R x
 
   pub pow-plus : (x : K) (a b : ℕ) → pow x (a + b) ≡ pow x a ⊗ pow x b
-  pow-plus x a b = elim b [
-    | zero ↦ rw (N.add-zero, pow_zero) (sym (times-one (pow x a)))
-    | suc (b → ih) ↦ rw (N.add-suc, pow_suc, pow_suc, ih) (times_assoc (pow x a) (pow x b) x)
+  pow-plus x a b = elim b as (λ b. pow x (a + b) ≡ pow x a ⊗ pow x b) [
+    | zero ↦ rw (N.add-zero, pow-zero) (sym (times-one (pow x a)))
+    | suc (b → ih) ↦ rw (N.add-suc, pow-suc, pow-suc, ih) (times_assoc (pow x a) (pow x b) x)
   ]
 
   pub pow-times : (x : K) (a b : ℕ) → pow x (a * b) ≡ pow (pow x a) b
-  pow-times x a b = elim b [ zero ↦ simp (N.mul-zero, pow_zero) | suc (b → ih) ↦ simp (N.mul-suc, pow_suc, pow-plus, ih) ]
+  pow-times x a b = elim b as (λ b. pow x (a * b) ≡ pow (pow x a) b) [ zero ↦ simp (N.mul-zero, pow-zero) | suc (b → ih) ↦ simp (N.mul-suc, pow-suc, pow-plus, ih) ]
 
   pub times-pow : (x y : K) (n : ℕ) → pow (x ⊗ y) n ≡ pow x n ⊗ pow y n
-  times-pow x y n = elim n [
-    | zero ↦ rw (pow_zero, pow_zero, pow_zero) (sym (times-one (of 1)))
-    | suc (n → ih) ↦ rw (pow_suc, pow_suc, pow_suc, ih) (ring R (pow x n ∷ pow y n ∷ x ∷ y ∷ []) (v 0 :* v 1 :* (v 2 :* v 3)) (v 0 :* v 2 :* (v 1 :* v 3)) refl)
+  times-pow x y n = elim n as (λ n. pow (x ⊗ y) n ≡ pow x n ⊗ pow y n) [
+    | zero ↦ rw (pow-zero, pow-zero, pow-zero) (sym (times-one (of 1)))
+    | suc (n → ih) ↦ rw (pow-suc, pow-suc, pow-suc, ih) (ring R (pow x n ∷ pow y n ∷ x ∷ y ∷ []) (v 0 :* v 1 :* (v 2 :* v 3)) (v 0 :* v 2 :* (v 1 :* v 3)) refl)
   ]
 
   pub one-pow : (n : ℕ) → pow (of 1) n ≡ of 1
-  one-pow n = elim n [ zero ↦ pow_zero (of 1) | suc (n → ih) ↦ rw (pow_suc, ih) (times-one (of 1)) ]
+  one-pow n = elim n as (λ n. pow (of 1) n ≡ of 1) [ zero ↦ pow-zero (of 1) | suc (n → ih) ↦ rw (pow-suc, ih) (times-one (of 1)) ]
 
   -- Powers of what comes round after n.
   pub pow_mod : (x : K) (n : ℕ) → pow x n ≡ of 1 → (e : ℕ) → pow x (e % n) ≡ pow x e
   pow_mod x n round e = sym (ap (pow x) (sym (N.div-add-mod e n)) ∙ rw (pow-plus, pow-times, round, one-pow) (one-times R (pow x (e % n))))
 
   pub of_pow : (a n : ℕ) → of (a ^ n) ≡ pow (of a) n
-  of_pow a n = elim n [ zero ↦ rw (N.pow_zero, pow_zero) | suc (n → ih) ↦ rw (N.pow_suc, pow_suc, of_times, ih) ]
+  of_pow a n = elim n as (λ n. of (a ^ n) ≡ pow (of a) n) [ zero ↦ rw (N.pow-zero, pow-zero) | suc (n → ih) ↦ rw (N.pow-suc, pow-suc, of_times, ih) ]
 
   -- ---- sums
 
@@ -84,14 +84,14 @@ module _ {K : Type 0} (R : Ring K) where
 
   pub sum-plus : (n : ℕ) (f g : ℕ → K) → sum n (λ i. f i ⊕ g i) ≡ sum n f ⊕ sum n g
   unfolding sum
-  sum-plus zero f g = sym (plus_zero (of 0))
+  sum-plus zero f g = sym (plus-zero (of 0))
   sum-plus (suc n) f g =
       ap (λ z. z ⊕ (f n ⊕ g n)) (sum-plus n f g)
       ∙ ring R (sum n f ∷ sum n g ∷ f n ∷ g n ∷ []) (v 0 :+ v 1 :+ (v 2 :+ v 3)) (v 0 :+ v 2 :+ (v 1 :+ v 3)) refl
 
   pub sum_split : (n m : ℕ) (f : ℕ → K) → sum (n + m) f ≡ sum n f ⊕ sum m (λ i. f (n + i))
   unfolding sum
-  sum_split n zero f = rw N.add-zero (sym (plus_zero (sum n f)))
+  sum_split n zero f = rw N.add-zero (sym (plus-zero (sum n f)))
   sum_split n (suc m) f =
       rw N.add-suc (ap (λ z. z ⊕ f (n + m)) (sum_split n m f) ∙ plus_assoc (sum n f) (sum m (λ i. f (n + i))) (f (n + m)))
 

@@ -4,3 +4,6 @@ pub mod Writes
 pub mod Parts
 pub mod Pairs
 pub mod Swaps
+pub mod Lists
+pub mod Lengths
+pub mod Search

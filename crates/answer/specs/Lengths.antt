@@ -1,6 +1,6 @@
 -- The permitted lengths.
 use Rattle.std.specs.Prelude.{ℕ, zero, suc, ◌+◌, ◌^◌, ◌≤◌, ◌<◌, ◌≡◌, refl, Bool, true, false, cond, eqb}
-use Rattle.std.proofs.Common.{sym, ⊎_elim, eq-or-lt_of_le, arith, pow_mono, eq-eqb, ne_eqb, eqb-true}
+use Rattle.std.proofs.Common.{sym, ⊎_elim, eq-or-lt_of_le, arith, eq-eqb, ne_eqb, eqb-true}
 use Rattle.std.proofs.Math.Pow.{pow-lt}
 
 -- The n from 1 to k with N = 2^n, or 0 where there is none.
@@ -25,7 +25,7 @@ found (suc k) n a b =
     (λ l. let h : 2 ^ n < 2 ^ suc k = pow-lt l in rw (ne_eqb (2 ^ n) (2 ^ suc k) (λ e. omega arith)) (found k n a (omega arith))) (eq-or-lt_of_le b)
 
 -- What is found is a candidate.
-candidate : (k N : ℕ) → 1 ≤ log_up_to k N → (N ≡ 2 ^ log_up_to k N) × (log_up_to k N ≤ k)
+pub candidate : (k N : ℕ) → 1 ≤ log_up_to k N → (N ≡ 2 ^ log_up_to k N) × (log_up_to k N ≤ k)
 unfolding log_up_to
 candidate zero N h = absurd (omega arith)
 candidate (suc k) N h = go (eqb N (2 ^ suc k)) refl h (candidate k N)
@@ -39,16 +39,3 @@ candidate (suc k) N h = go (eqb N (2 ^ suc k)) refl h (candidate k N)
 pub power_permitted : (n : ℕ) → 1 ≤ n → n ≤ 12 → log_of (2 ^ n) ≡ n
 unfolding log_of
 power_permitted n a b = found _ n a (omega arith)
-
--- A permitted length is 2^n, n from 1 to 12.
-pub permitted_log : (N : ℕ) → 1 ≤ log_of N → (N ≡ 2 ^ log_of N) × (log_of N ≤ 12)
-unfolding log_of
-permitted_log N h = let r = candidate _ N h in (r.0, omega arith)
-
--- It is from 2 to 4,096.
-pub permitted_range : (N : ℕ) → 1 ≤ log_of N → (2 ≤ N) × (N ≤ 4096)
-permitted_range N h =
-    let r = permitted_log N h in
-    let low : 2 ^ 1 ≤ 2 ^ log_of N = pow_mono h in
-    let high : 2 ^ log_of N ≤ 2 ^ 12 = pow_mono r.1 in
-    (omega arith, omega arith)

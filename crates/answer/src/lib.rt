@@ -1,10 +1,12 @@
 // What every public call needs: the answer it gives, the mark of a search, and the permitted lengths.
+#![tactic(auto)]
+
 ghost use Rattle.std.specs.Prelude.{◌≡◌};
 ghost use Rattle.answer.specs.Lengths.{log_of, table_log};
 
 // What a call answers: document 01's number and place.
 #[repr(C)]
-#[derive(Drop)]
+#[derive(Clone, Copy)]
 pub struct Answer {
     pub number: u32,
     pub place: usize,
@@ -61,7 +63,7 @@ pub const ROW: Answer = Answer {
 };
 
 // What a search for the first bad place answers. `Nowhere` is the accepted mark.
-#[derive(Drop)]
+#[derive(Clone, Copy)]
 pub enum Found {
     At(usize),
     Nowhere,

@@ -6,7 +6,8 @@ use native.Mathlib.Nat.{lt_of_lt_of_le, mul-lt-mul_of_pos_left, mul-le-mul_right
 use native.Mathlib.Omega.{arith}
 use lib.ListN.{length, get_or, set}
 use borrow.Rule.Slice.PartMut.{mid_of, put_mid}
-use Rattle.answer.specs.Lists.{at, tabulate, Holds, holds, holds_every}
+use Rattle.answer.specs.Lists.{at, tabulate, Holds, holds_every}
+use Rattle.answer.proofs.Lists.{holds}
 use Rattle.answer.proofs.Pairs.{Paired, paired_next}
 use Rattle.answer.proofs.Writes.{Written, written_every}
 use Rattle.answer.proofs.Parts.{mid_holds, written_part}

@@ -4,7 +4,8 @@ use mathlib.Core.Path.{◌≡◌}
 use mathlib.Core.List.{List}
 use native.Mathlib.Omega.{arith}
 use lib.ListN.{length}
-use Rattle.answer.specs.Lists.{at, tabulate, Holds, holds, holds_every}
+use Rattle.answer.specs.Lists.{at, tabulate, Holds, holds_every}
+use Rattle.answer.proofs.Lists.{holds}
 use Rattle.fourier.specs.Schedules.{Buffer, Stage, step}
 use Rattle.fourier.specs.Blocks.{Within, Ran, ran_none, ran_next}
 use Rattle.residues.specs.Judgement.{Judged}

@@ -1,4 +1,6 @@
 // Stages in place over residues: block after block, and in a block pair after pair.
+#![tactic(auto)]
+
 ghost use Rattle.std.specs.Prelude.{◌≡◌, ◌+◌, ◌-◌, ◌*◌, ◌%◌, ◌≤◌, ◌<◌, length};
 ghost use Rattle.answer.specs.Lists.{at, tabulate};
 ghost use Rattle.fourier.specs.Schedules.{butterfly, step};
@@ -10,7 +12,7 @@ ghost use Rattle.butterflies.specs.Ways.{wing};
 use residues::{Exponent, Modulus, Residue};
 
 // How a pair is taken: as schedules 1, 2 and 3 do, as schedules 4 and 5 do, and as the inverse does.
-#[derive(Drop)]
+#[derive(Clone, Copy)]
 pub enum Way {
     Frequency,
     Time,
@@ -18,7 +20,7 @@ pub enum Way {
 }
 
 // What the two places of a pair receive.
-#[derive(Drop)]
+#[derive(Clone, Copy)]
 pub struct Parts(pub u32, pub u32);
 
 // The sum, and t times the difference.

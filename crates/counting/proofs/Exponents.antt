@@ -40,16 +40,16 @@ exponents-reversed Frequency other n s k = absurd (⊎_elim (λ e. omega arith) 
 exponents-reversed Time other n s k = rw rev_mod
 exponents-reversed Back other n s k = rw rev_mod
 
-rev_zero : (s : ℕ) → rev s 0 ≡ 0
+rev-zero : (s : ℕ) → rev s 0 ≡ 0
 unfolding rev
-rev_zero zero = refl
-rev_zero (suc s) = omega (arith, rev_zero s)
+rev-zero zero = refl
+rev-zero (suc s) = omega (arith, rev-zero s)
 
 -- The first pair.
 pub exponents-first : (way : Way) (n s : ℕ) → 0 ≡ exponents way n s 0
 exponents-first Frequency n s = omega arith
-exponents-first Time n s = rw (rev_mod, rev_zero, mul-zero)
-exponents-first Back n s = rw (rev_mod, rev_zero, mul-zero)
+exponents-first Time n s = rw (rev_mod, rev-zero, mul-zero)
+exponents-first Back n s = rw (rev_mod, rev-zero, mul-zero)
 
 -- Shifted by s bits there and back, in w bits.
 pub shifted : (k s w : ℕ) → k < 2 ^ w → k / 2 ^ s * 2 ^ s % 2 ^ w ≡ k - k % 2 ^ s

@@ -1,4 +1,6 @@
 // The exponents of a stage, pair after pair.
+#![tactic(auto)]
+
 ghost use Rattle.std.specs.Prelude.{◌≡◌, suc, ◌+◌, ◌-◌, ◌*◌, ◌%◌, ◌^◌, ◌≤◌, ◌<◌};
 ghost use Rattle.fourier.specs.Reverse.{rev};
 ghost use Rattle.counting.specs.Exponents.{exponents};

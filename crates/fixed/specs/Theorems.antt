@@ -6,10 +6,12 @@ use Rattle.std.proofs.lemmas.Bool.{false≢true}
 use Rattle.answer.specs.declared.Answer.{Answer}
 use Rattle.answer.specs.Choice.{refuse, refuse_at, done, judged_at, unless-done, done_left, unless_past, judged_past, judged_here, judged-number}
 use Rattle.answer.specs.Lists.{length-tabulate}
-use Rattle.answer.specs.Search.{Passed, FailsFirst, first_passed, at_failed}
+use Rattle.answer.specs.Search.{Passed, FailsFirst}
+use Rattle.answer.proofs.Search.{first_passed, at_failed}
 use Rattle.fourier.specs.Array.{frequency}
 use Rattle.fourier.specs.Embeddings.{straight}
-use Rattle.fourier.specs.Leaves.{Leaves, leaves1, leaves2, leaves3, agree}
+use Rattle.fourier.specs.Leaves.{Leaves, agree}
+use Rattle.fourier.proofs.Leaves.{leaves1, leaves2, leaves3}
 use Rattle.fourier.specs.Reverse.{rev, rev_lt, rev-rev}
 use Rattle.points.specs.declared.Point.{Point}
 use Rattle.points.specs.Interleaved.{point, interleaved_by, point-interleaved}

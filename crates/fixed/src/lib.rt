@@ -1,4 +1,6 @@
 // The public calls in fixed point. Each tests everything that it is lent, in document 01's order, and only then works.
+#![tactic(auto)]
+
 mod reversing;
 mod transforming;
 

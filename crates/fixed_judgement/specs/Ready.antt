@@ -5,9 +5,10 @@ use Rattle.std.proofs.lemmas.Bool.{false≢true}
 use Rattle.std.proofs.Common.{arith, ltb-true, leb-true, eqb-true, eq-eqb}
 use Rattle.std.specs.Int.Signed.{mag}
 use Rattle.answer.specs.Choice.{refuse, done, unless-done, judged-done}
-use Rattle.answer.specs.Lengths.{log_of, power_permitted, permitted_log}
+use Rattle.answer.specs.Lengths.{log_of, power_permitted}
+use Rattle.answer.proofs.Lengths.{permitted_log}
 use Rattle.answer.specs.Lists.{holds_self, holds_every}
-use Rattle.answer.specs.Search.{nowhere_passed}
+use Rattle.answer.proofs.Search.{nowhere_passed}
 use Rattle.fourier.specs.Sizes.{two_halves}
 use Rattle.points.specs.Interleaved.{number, point}
 use Rattle.points.specs.Steps.{Sized, Turns}

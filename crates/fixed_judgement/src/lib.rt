@@ -1,4 +1,6 @@
 // What the calls in fixed point judge, in document 01's order. Nothing here writes.
+#![tactic(auto)]
+
 ghost use Rattle.std.specs.Prelude.{◌≡◌};
 ghost use Rattle.fixed_judgement.specs.Verdicts.{points_log, in_range, bad_sample, scratch_fits, offers, transform_verdict};
 

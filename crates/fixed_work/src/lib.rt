@@ -1,4 +1,6 @@
 // The work of the transform in fixed point, on what was judged.
+#![tactic(auto)]
+
 ghost use Rattle.std.specs.Prelude.{true, ◌≡◌, ◌+◌, ◌^◌, ◌≤◌, length};
 ghost use Rattle.points.specs.declared.Point.{Point};
 ghost use Rattle.points.specs.Interleaved.{point, interleaved};

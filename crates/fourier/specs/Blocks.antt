@@ -4,7 +4,8 @@ use Rattle.std.specs.Prelude.{ℕ, zero, suc, ◌+◌, ◌-◌, ◌*◌, ◌/◌
 use Rattle.std.proofs.Common.{◌∙◌, zero-mul, zero-add, mul-zero, suc-mul, mod-lt, not-suc-le-zero, mul-le-mul_right, div-add-mod', div-lt_iff_lt-mul, arith}
 use Rattle.std.proofs.Math.Numerals.{add-one}
 use Rattle.std.proofs.Math.Decide.{dec_lt}
-use Rattle.answer.specs.Lists.{tabulate, Holds, listed, holds, holds_self}
+use Rattle.answer.specs.Lists.{tabulate, Holds, holds_self}
+use Rattle.answer.proofs.Lists.{listed, holds}
 use Rattle.fourier.specs.Schedules.{Wing, Buffer, Stage, butterfly, shuffled, step, run}
 use Rattle.fourier.specs.Sentences.{Receive, butterfly_receive, butterfly_shift}
 

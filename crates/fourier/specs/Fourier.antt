@@ -2,12 +2,12 @@
 use Prim.Native.Nat.{ℕ, zero, suc, ◌+◌, ◌-◌, ◌*◌, ◌/◌, ◌%◌, ◌^◌, ◌<◌, ◌≤◌}
 use Rattle.std.specs.Prelude.{◌≡◌, refl, [], ◌∷◌}
 use Rattle.std.proofs.Math.Path.{sym, ap}
-use Rattle.std.proofs.Common.{◌∙◌, le_refl, zero-add, mul-zero, zero-mul, mul_comm, pow_suc}
+use Rattle.std.proofs.Common.{◌∙◌, le_refl, zero-add, mul-zero, zero-mul, mul_comm, pow-suc}
 use Rattle.std.proofs.Math.Nat.{sub-zero, sub_self}
 use native.Mathlib.Omega.{arith}
 use Rattle.algebra.specs.Ring.{Ring, one-times}
 use Rattle.algebra.specs.Solver.{v, :1, ◌:+◌, ◌:-◌, ◌:*◌, :neg, ring}
-use Rattle.algebra.specs.Sum.{pow, sum, pow_zero, pow-one, pow-plus, pow-times, one-pow, sum_one, sum_cong, sum-plus, sum_split}
+use Rattle.algebra.specs.Sum.{pow, sum, pow-zero, pow-one, pow-plus, pow-times, one-pow, sum_one, sum_cong, sum-plus, sum_split}
 use Rattle.fourier.specs.Reverse.{rev}
 use Rattle.fourier.specs.Schedules.{Wing, Buffer, Schedule, Arithmetic, in_frequency, in_time}
 use Rattle.fourier.specs.Sizes.{rows, half_buffer}
@@ -73,7 +73,7 @@ module _ {K : Type 0} (R : Ring K) where
     pub frequency-time : (n : ℕ) (A : Buffer K) (s i j : ℕ) →
         array (in_frequency arithmetic (pow R x)) frequency n A s i j ≡ pow R x (i * rev s j) ⊗ array (in_time arithmetic (pow R x)) (time n) n A s i j
     unfolding array rev
-    frequency-time n A zero i j = rw (mul-zero, pow_zero) (sym (one-times R (A i)))
+    frequency-time n A zero i j = rw (mul-zero, pow-zero) (sym (one-times R (A i)))
     frequency-time n A (suc s) i j =
         rw (frequency-time n A s i (j / 2), frequency-time n A s (i + 2 ^ (n - suc s)) (j / 2))
         (conjugate (2 ^ s) (2 ^ (n - suc s)) i (rev s (j / 2)) (j % 2) _ _ (omega arith))
@@ -85,7 +85,7 @@ module _ {K : Type 0} (R : Ring K) where
       unfolding array rev fourier
       invariant A zero l k j = rw sub-zero (sum_cong R (2 ^ n) (λ i _. let z : 1 * i * k ≡ (1 * k + 0) * i = omega arith in rw z))
       invariant A (suc s) l k j =
-          sum_cong R h (λ i _. rw (pow_suc, mate i) (term c h k i (j % 2) (B i) (B (h + i)) half_turn (omega arith)))
+          sum_cong R h (λ i _. rw (pow-suc, mate i) (term c h k i (j % 2) (B i) (B (h + i)) half_turn (omega arith)))
           ∙ sum-plus R h g (λ i. g (h + i)) ∙ sym (sum_split R h h g)
           ∙ (rw (rows l) at (invariant A s (omega arith) (2 * k + j % 2) (j / 2)))
           ∙ ap (fourier x (2 ^ n) A) place
@@ -109,7 +109,7 @@ module _ {K : Type 0} (R : Ring K) where
           half_turn = rw (mul_comm, half_buffer l) turn
 
           place : c * (2 * k + j % 2) + rev s (j / 2) ≡ 2 ^ suc s * k + (j % 2 * c + rev s (j / 2))
-          place = rw pow_suc (omega arith)
+          place = rw pow-suc (omega arith)
 
       -- The last row of the array is the sums in reversed order.
       pub record Decimates (e : Exponents) (w : Wing K) : Type 0 where
@@ -119,7 +119,7 @@ module _ {K : Type 0} (R : Ring K) where
       decimates_frequency = record {
         last = λ A p.
             let row = sum_one R (λ i. array (in_frequency arithmetic (pow R x)) frequency n A n i p ⊗ pow R x (2 ^ n * i * 0)) in
-            let one : array (in_frequency arithmetic (pow R x)) frequency n A n 0 p ⊗ pow R x (2 ^ n * 0 * 0) ≡ array (in_frequency arithmetic (pow R x)) frequency n A n 0 p = rw (mul-zero, pow_zero) (times-one _) in
+            let one : array (in_frequency arithmetic (pow R x)) frequency n A n 0 p ⊗ pow R x (2 ^ n * 0 * 0) ≡ array (in_frequency arithmetic (pow R x)) frequency n A n 0 p = rw (mul-zero, pow-zero) (times-one _) in
             sym one ∙ sym row ∙ (rw (sub_self, mul-zero, zero-add) at (invariant A n (le_refl n) 0 p));
       }
 
@@ -127,7 +127,7 @@ module _ {K : Type 0} (R : Ring K) where
       decimates_time = record {
         last = λ A p.
             let same = frequency-time n A n 0 p in
-            sym (rw (zero-mul, pow_zero, one-times) at same) ∙ decimates_frequency.last A p;
+            sym (rw (zero-mul, pow-zero, one-times) at same) ∙ decimates_frequency.last A p;
       }
 
       -- Every schedule leaves the sum `index p` at place p.

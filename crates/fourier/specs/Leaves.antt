@@ -1,15 +1,13 @@
 -- What the five schedules leave, said once: the last row of Dijkstra's array. So they agree, over every carrier, and what two steps
 -- keep between two carriers holds between the two results.
 use Prim.Native.Nat.{ℕ, zero, suc, ◌+◌, ◌-◌, ◌/◌, ◌%◌, ◌^◌, ◌<◌, ◌≤◌}
-use Rattle.std.specs.Prelude.{◌≡◌, refl}
+use Rattle.std.specs.Prelude.{◌≡◌}
 use Rattle.std.proofs.Common.{sym, ◌∙◌, ap₂, le_refl, mul-lt-mul_of_pos_right, arith, pow_pos}
 use Rattle.std.proofs.Math.Nat.{sub-zero}
 use Rattle.fourier.specs.Sizes.{rows, half_buffer}
-use Rattle.fourier.specs.Reverse.{rev, rev_lt, rev-rev}
-use Rattle.fourier.specs.Schedules.{Wing, Buffer, Schedule, schedule1, schedule2, schedule3, schedule4, schedule5, Arithmetic, in_frequency, in_time}
-use Rattle.fourier.specs.Array.{Exponents, frequency, time, array, run_last}
-use Rattle.fourier.specs.Embeddings.{straight, columns_embeds, shuffle_embeds, thong_embeds, pease_embeds}
-use Rattle.fourier.specs.Halves.{halves-columns}
+use Rattle.fourier.specs.Reverse.{rev}
+use Rattle.fourier.specs.Schedules.{Wing, Buffer, Schedule, Arithmetic, in_frequency, in_time}
+use Rattle.fourier.specs.Array.{Exponents, frequency, array}
 
 -- Every exponent that a step asks for lies in the table of N/2 entries.
 abbrev pub Tabled : Exponents → ℕ → Type 0
@@ -17,9 +15,6 @@ Tabled e n = (s i j : ℕ) → s < n → i < 2 ^ (n - suc s) → e s i j < 2 ^ (
 
 pub frequency_tabled : (n : ℕ) → Tabled frequency n
 frequency_tabled n s i j l h = omega (arith, mul-lt-mul_of_pos_right h (pow_pos s), half_buffer l)
-
-time_tabled : (n : ℕ) → Tabled (time n) n
-time_tabled n s i j l h = omega (arith, mul-lt-mul_of_pos_right (rev_lt s j) (pow_pos (n - suc s)), half_buffer l)
 
 -- The schedule f takes sample i at the place `order i` and leaves column p of the array's last row at the place `order p`; that column,
 -- with p reversed, is `index` of its place: the sum which will stand there. `order` takes back itself.
@@ -29,27 +24,6 @@ pub record Leaves (e : Exponents) (n : ℕ) (order index : ℕ → ℕ) (f : Sch
   pub within : (p : ℕ) → p < 2 ^ n → order p < 2 ^ n
   pub again : (p : ℕ) → p < 2 ^ n → order (order p) ≡ p
   pub stands : (p : ℕ) → p < 2 ^ n → rev n (order p) ≡ index p
-
--- "Schedules 1, 2, 3 and 5 take samples in order and leave f(rev(j)) at place j."
-in_order : (e : Exponents) (n : ℕ) (f : Schedule) → Tabled e n →
-    ((C : Type 0) (w : Wing C) (d : Buffer C) (p : ℕ) → p < 2 ^ n → f C w d p ≡ array w e n d n 0 p) → Leaves e n straight (rev n) f
-in_order e n f tabled last = record { tabled = tabled; last = last; within = λ p h. h; again = λ p h. refl; stands = λ p h. refl }
-
-pub leaves1 : (n : ℕ) → Leaves frequency n straight (rev n) (schedule1 n)
-leaves1 n = in_order frequency n (schedule1 n) (frequency_tabled n) (λ C w. run_last (columns_embeds n) w)
-
-pub leaves2 : (n : ℕ) → Leaves frequency n straight (rev n) (schedule2 n)
-leaves2 n = in_order frequency n (schedule2 n) (frequency_tabled n) (λ C w. run_last (shuffle_embeds n) w)
-
-pub leaves3 : (n : ℕ) → Leaves frequency n straight (rev n) (schedule3 n)
-leaves3 n = in_order frequency n (schedule3 n) (frequency_tabled n) (λ C w d p h. halves-columns w n d p ∙ run_last (columns_embeds n) w d p h)
-
-pub leaves5 : (n : ℕ) → Leaves (time n) n straight (rev n) (schedule5 n)
-leaves5 n = in_order (time n) n (schedule5 n) (time_tabled n) (λ C w. run_last (pease_embeds n) w)
-
--- "Schedule 4 takes samples in bit-reversed order and leaves f(j) at place j."
-pub leaves4 : (n : ℕ) → Leaves (time n) n (rev n) straight (schedule4 n)
-leaves4 n = record { tabled = time_tabled n; last = λ C w. run_last (thong_embeds n) w; within = λ p h. rev_lt n p; again = rev-rev n; stands = rev-rev n }
 
 -- ---- the relational induction
 

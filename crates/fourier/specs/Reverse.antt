@@ -1,6 +1,6 @@
 -- Bit reversal, and that it is its own inverse.
 use Rattle.std.specs.Prelude.{ℕ, zero, suc, ◌+◌, ◌*◌, ◌/◌, ◌%◌, ◌^◌, ◌<◌, ◌≡◌}
-use Rattle.std.proofs.Common.{zero-mul, one-mul, zero-add, add-zero, add_comm, pow_suc, arith}
+use Rattle.std.proofs.Common.{zero-mul, one-mul, zero-add, add-zero, add_comm, pow-suc, arith}
 use Rattle.std.proofs.Math.Nat.{pow-succ'}
 use Rattle.std.proofs.Math.Arith.{digits_lt}
 
@@ -21,7 +21,7 @@ rev_top zero b j hb hj = omega arith
 rev_top (suc n) b j hb hj =
     let bit : (b * (2 ^ n * 2) + j) % 2 ≡ j % 2 = omega arith in
     let half : (b * (2 ^ n * 2) + j) / 2 ≡ b * 2 ^ n + j / 2 = omega arith in
-    rw (pow_suc 2 n, bit, half, rev_top n b (j / 2) hb (omega arith)) (omega arith)
+    rw (pow-suc 2 n, bit, half, rev_top n b (j / 2) hb (omega arith)) (omega arith)
 
 pub rev_low : (n j : ℕ) → j < 2 ^ n → rev (suc n) j ≡ 2 * rev n j
 rev_low n j h = rw (zero-mul, zero-add, add-zero) at (rev_top n 0 j (omega arith) h)

@@ -1,1 +1,2 @@
 // This crate has no code: the schedules and the theorems about them stand in specs/.
+#![tactic(auto)]

@@ -2,13 +2,13 @@
 use Prim.Native.Nat.{ℕ, zero, suc, ◌/◌, ◌%◌, ◌^◌, ◌<◌, ◌≤◌}
 use Rattle.std.specs.Prelude.{◌≡◌, cond, ltb}
 use Rattle.std.proofs.Math.Path.{refl}
-use Rattle.std.proofs.Common.{sym, ◌∙◌, pow_suc, one-mul, div-lt_iff_lt-mul, arith, lt-ltb, le-ltb}
-use Rattle.std.proofs.Math.Nat.{pow_zero}
+use Rattle.std.proofs.Common.{sym, ◌∙◌, pow-suc, one-mul, div-lt_iff_lt-mul, arith, lt-ltb, le-ltb}
+use Rattle.std.proofs.Math.Nat.{pow-zero}
 use Rattle.std.proofs.Math.Decide.{dec_lt}
 
 -- A digit less.
 pub base_less : (base k v : ℕ) → 0 < base → v < base ^ suc k → v / base < base ^ k
-base_less base k v pos h = (div-lt_iff_lt-mul {k = base} {x = v} {y = base ^ k} pos).1 (rw pow_suc at h)
+base_less base k v pos h = (div-lt_iff_lt-mul {k = base} {x = v} {y = base ^ k} pos).1 (rw pow-suc at h)
 
 module _ {A : Type 0} (base : ℕ) (last : ℕ → A) (more : ℕ → A → A) where
   -- v in the base, of at most k digits and one: `last` of a single digit, and `more` of the lowest digit and what those behind it make.
@@ -38,7 +38,7 @@ module _ {A : Type 0} (base : ℕ) (last : ℕ → A) (more : ℕ → A → A) w
   module _ (pos : 0 < base) where
     -- A digit more than there are changes nothing.
     pub base_enough : (k v : ℕ) → v < base ^ suc k → in_base (suc k) v ≡ in_base k v
-    base_enough zero v h = let l : v < base = rw (pow_suc, pow_zero, one-mul) at h in base_one 1 v l ∙ sym (base_one 0 v l)
+    base_enough zero v h = let l : v < base = rw (pow-suc, pow-zero, one-mul) at h in base_one 1 v l ∙ sym (base_one 0 v l)
     base_enough (suc k) v h = by (dec_lt v base) (base_enough k (v / base) (base_less base (suc k) v pos h))
       where
         by : Dec (v < base) → in_base (suc k) (v / base) ≡ in_base k (v / base) → in_base (suc (suc k)) v ≡ in_base (suc k) v

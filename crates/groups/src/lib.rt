@@ -1,9 +1,11 @@
 // Numbers below 2^32 "in groups of seven bits, low group first, top bit set on all but the last; shortest form only".
+#![tactic(auto)]
+
 ghost use Rattle.std.specs.Prelude.{◌≡◌, ◌<◌};
 ghost use Rattle.groups.specs.Groups.{overlong, number_at};
 
 // What stands at a place: a number and the place behind it, or the place of a fault.
-#[derive(Drop)]
+#[derive(Clone, Copy)]
 pub enum Number {
     Value(u32, usize),
     Fault(usize),

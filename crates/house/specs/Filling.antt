@@ -2,7 +2,8 @@
 use Rattle.std.specs.Prelude.{ℕ, ◌+◌, ◌-◌, ◌^◌, ◌<◌, ◌≤◌, ◌≡◌, List, ltb, length}
 use Rattle.std.proofs.Common.{sym, ap, ◌∙◌, arith, ltb-true, lt-ltb}
 use Rattle.answer.specs.Choice.{refuse, refuse_at, done, unless, if_done, unless-done}
-use Rattle.answer.specs.Lengths.{table_log, power_permitted, permitted_log, permitted_range}
+use Rattle.answer.specs.Lengths.{table_log, power_permitted}
+use Rattle.answer.proofs.Lengths.{permitted_log, permitted_range}
 use Rattle.answer.specs.Lists.{at, length-tabulate}
 use Rattle.answer.specs.declared.Answer.{Answer}
 use Rattle.fourier.specs.Sizes.{two_halves}

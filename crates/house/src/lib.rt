@@ -1,4 +1,6 @@
 // The filling of a lent table from a setting.
+#![tactic(auto)]
+
 ghost use Rattle.std.specs.Prelude.{◌≡◌, ◌-◌, ◌%◌, ◌^◌, ◌≤◌, ◌<◌, length};
 ghost use Rattle.residues.specs.Moduli.{Permitted};
 ghost use Rattle.house_rows.specs.Powers.{powers, turns};

@@ -1,15 +1,16 @@
 -- The powers of a root modulo m: one after the other, by squares, and as a table that is accepted.
 use Prim.Native.Nat.{ℕ, zero, suc, ◌-◌, ◌*◌, ◌%◌, ◌^◌, ◌<◌, ◌≤◌}
 use Rattle.std.specs.Prelude.{◌≡◌, refl, Bool, true, ◌&&◌, List, ltb, eqb}
-use Rattle.std.proofs.Common.{sym, ◌∙◌, le_refl, one-mul, pow_suc, mod-lt, mod-eq_of_lt, pow-add}
+use Rattle.std.proofs.Common.{sym, ◌∙◌, le_refl, one-mul, pow-suc, mod-lt, mod-eq_of_lt, pow-add}
 use Rattle.std.proofs.Math.Bool.{and-eq-true_iff}
 use Rattle.std.proofs.Math.Logic.{⊎_elim}
-use Rattle.std.proofs.Math.Nat.{pow_zero, two-pow-succ}
+use Rattle.std.proofs.Math.Nat.{pow-zero, two-pow-succ}
 use native.Mathlib.Omega.{arith}
 use borrow.Author.Tests.{ltb-true, eqb-true, lt-ltb, le-ltb, eq-eqb, ne_eqb}
 use Rattle.algebra.specs.Gaps.{mod_mul_left, mod_mul_right}
 use Rattle.answer.specs.Cases.{lt_or_ge, eq_or_ne}
-use Rattle.answer.specs.Lists.{at, tabulate, get_or-tabulate}
+use Rattle.answer.specs.Lists.{at, tabulate}
+use Rattle.answer.proofs.Lists.{get_or-tabulate}
 use Rattle.fourier.specs.Table.{root, wanted, rule, Accepted}
 
 -- ---- definitions
@@ -25,10 +26,10 @@ turns m x h = ltb x m && eqb (x ^ h % m) (m - 1)
 -- ---- laws of powers modulo m
 
 pub power_one : {m x : ℕ} → x < m → x ^ 1 % m ≡ x
-power_one l = rw (pow_suc, pow_zero, one-mul) (mod-eq_of_lt l)
+power_one l = rw (pow-suc, pow-zero, one-mul) (mod-eq_of_lt l)
 
 pub power_next : (m x k : ℕ) → x ^ k % m * x % m ≡ x ^ suc k % m
-power_next m x k = rw (mod_mul_left, pow_suc)
+power_next m x k = rw (mod_mul_left, pow-suc)
 
 pub power_squared : (m x k : ℕ) → x ^ 2 ^ k % m * (x ^ 2 ^ k % m) % m ≡ x ^ 2 ^ suc k % m
 power_squared m x k = rw (mod_mul_left, mod_mul_right, two-pow-succ, pow-add)
@@ -68,7 +69,7 @@ module _ (m x h : ℕ) (two : 2 ≤ m) (some : 1 ≤ h) (r : Turns m x h) where
 
   wanted_power : (i : ℕ) → i ≤ h → wanted m h t i ≡ x ^ i % m
   unfolding wanted
-  wanted_power zero l = rw pow_zero (sym (mod-eq_of_lt two))
+  wanted_power zero l = rw pow-zero (sym (mod-eq_of_lt two))
   wanted_power (suc i) l = rw (powers-root, entry i l) (power_next m x i)
 
   pub powers_accepted : Accepted m h t

@@ -5,7 +5,8 @@ use Rattle.std.proofs.Math.Bool.{and-eq-true_iff}
 use Rattle.std.proofs.Math.Nat as N
 use borrow.Author.Tests.{eqb-true}
 use Rattle.answer.specs.Lists.{at}
-use Rattle.answer.specs.Search.{first, nowhere_passed}
+use Rattle.answer.specs.Search.{first}
+use Rattle.answer.proofs.Search.{nowhere_passed}
 use Rattle.answer.specs.declared.Found.TheVariants.{Nowhere}
 use Rattle.algebra.specs.Gaps.{mod_mul_left, mod_mul_right}
 use Rattle.fourier.specs.Sizes.{rows}

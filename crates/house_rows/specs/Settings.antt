@@ -2,7 +2,8 @@
 use Rattle.std.specs.Prelude.{ℕ, suc, ◌-◌, ◌<◌, ◌≤◌, ◌≡◌, ltb, get_or, replicate}
 use Rattle.std.proofs.Common.{sym, ap, ◌∙◌, arith, lt-ltb}
 use Rattle.answer.specs.Choice.{refuse, done, unless, if_done}
-use Rattle.answer.specs.Lists.{tabulate, get_or-tabulate}
+use Rattle.answer.specs.Lists.{tabulate}
+use Rattle.answer.proofs.Lists.{get_or-tabulate}
 use Rattle.answer.specs.declared.Answer.{Answer}
 use Rattle.residues.specs.declared.Residue.{Residue}
 use Rattle.house_rows.specs.declared.Setting.{Setting}

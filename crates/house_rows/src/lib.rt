@@ -1,4 +1,6 @@
 // The house rows, and the settings that they yield.
+#![tactic(auto)]
+
 ghost use Rattle.std.specs.Prelude.{◌≡◌, ◌<◌};
 ghost use Rattle.house_rows.specs.Settings.{row_setting, SettingOutcome};
 
@@ -26,7 +28,7 @@ const ROOTS: [[u32; 12]; 3] = [
 
 // "The modulus together with its twelve roots, one per length": the root for 2^n stands at place n - 1.
 #[repr(C)]
-#[derive(Drop)]
+#[derive(Clone, Copy)]
 pub struct Setting {
     pub modulus: u32,
     pub roots: [Residue; 12],
@@ -34,7 +36,7 @@ pub struct Setting {
 
 // What a row yields.
 #[repr(C)]
-#[derive(Drop)]
+#[derive(Clone, Copy)]
 pub struct Yielded {
     pub answer: Answer,
     pub setting: Setting,

@@ -1,5 +1,7 @@
 // The schedules without the judgement, as the benchmark calls them, and nobody else: what `modular_work` and `fixed_work` ask for, the
 // caller owes.
+#![tactic(auto)]
+
 ghost use Rattle.std.specs.Prelude.{true, ◌≡◌, ◌+◌, ◌-◌, ◌^◌, ◌≤◌, length};
 ghost use Rattle.answer.specs.Lists.{at, tabulate};
 ghost use Rattle.fixed_judgement.specs.Verdicts as fixed-verdicts;

@@ -1,5 +1,7 @@
 // What `dft` prints: "number and place and, on success, the N results in buffer order, with single spaces and a newline". The line is
 // made from its end, so that no digit is counted before it is written.
+#![tactic(auto)]
+
 ghost use Rattle.std.specs.Prelude.{◌≡◌, ◌∷◌, ◌+◌, ◌*◌, ◌≤◌, length, take};
 ghost use Rattle.line.specs.Lines.{decimal, spaced, line};
 ghost use Rattle.line.specs.Outcomes.{Stands, LineOutcome};

@@ -5,15 +5,21 @@ use Rattle.std.proofs.Math.Path.{refl}
 use Rattle.std.proofs.Common.{sym, ap, ◌∙◌, ⊎_elim, mod-lt, arith, ltb-true, eq-eqb, ext_get_or}
 use Rattle.answer.specs.declared.Answer.{Answer}
 use Rattle.answer.specs.Choice.{refuse, refuse_at, done, unless-done, judged-done, done_left, unless_past, judged_past, judged_here, judged-number}
-use Rattle.answer.specs.Search.{FailsFirst, first_passed, at_failed, nowhere_passed}
-use Rattle.answer.specs.Lengths.{log_of, table_log, permitted_log}
-use Rattle.answer.specs.Lists.{at, Holds, get_or-tabulate, holds}
+use Rattle.answer.specs.Search.{FailsFirst}
+use Rattle.answer.proofs.Search.{first_passed, at_failed, nowhere_passed}
+use Rattle.answer.specs.Lengths.{log_of, table_log}
+use Rattle.answer.proofs.Lengths.{permitted_log}
+use Rattle.answer.specs.Lists.{at, Holds}
+use Rattle.answer.proofs.Lists.{get_or-tabulate, holds}
 use Rattle.fourier.specs.Reverse.{rev, rev_lt, rev-rev}
 use Rattle.fourier.specs.Schedules.{Buffer, Stage, columns, shuffle}
 use Rattle.fourier.specs.Array.{frequency, Embeds, Embedded, stage_array}
-use Rattle.fourier.specs.Embeddings.{straight, column_wise, row_wise, column_room, row_room, columns_embeds, shuffle_embeds}
-use Rattle.fourier.specs.Table.{root, rule, Accepted, root_power}
-use Rattle.fourier.specs.Numbers.{fourier_mod, fourier_cong, frequency_mod, schedule1_sums, schedule2_sums, schedule3_sums, schedule4_sums, schedule5_sums, inverse_mod, inverse_sums_mod, sums_inverse_mod}
+use Rattle.fourier.specs.Embeddings.{straight, column_wise, row_wise, column_room, row_room}
+use Rattle.fourier.proofs.Embeddings.{columns_embeds, shuffle_embeds}
+use Rattle.fourier.specs.Table.{root, rule, Accepted}
+use Rattle.fourier.proofs.Table.{root_power}
+use Rattle.fourier.specs.Numbers.{fourier_mod, fourier_cong, frequency_mod, inverse_mod}
+use Rattle.fourier.proofs.Numbers.{schedule1_sums, schedule2_sums, schedule3_sums, schedule4_sums, schedule5_sums, inverse_sums_mod, sums_inverse_mod}
 use Rattle.residues.specs.Moduli.{Permitted, permits, permits_permitted, permitted_permits}
 use Rattle.residues.specs.Judgement.{Below, below, bad_entry, bad_sample, entries_below, below_nowhere}
 use Rattle.modular_judgement.specs.Verdicts.{permitted_length, scratch_fits, lent_verdict, rest_verdict, accept_verdict, offers, transform_verdict, offers_stage, stage_verdict, inverse_verdict, reverse_verdict}

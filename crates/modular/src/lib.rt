@@ -1,4 +1,6 @@
 // The public calls over residues. Each tests everything that it is lent, in document 01's order, and only then works.
+#![tactic(auto)]
+
 mod accepting;
 mod inverting;
 mod staging;

@@ -4,7 +4,8 @@ use mathlib.Core.Path.{◌≡◌, sym, ◌∙◌}
 use mathlib.Core.Bool.{Bool, true, false, not}
 use native.Mathlib.Omega.{arith}
 use borrow.Author.Tests.{not-true, not-false, lt-ltb, le-ltb, ltb-true}
-use Rattle.answer.specs.Lengths.{log_of, permitted_range}
+use Rattle.answer.specs.Lengths.{log_of}
+use Rattle.answer.proofs.Lengths.{permitted_range}
 use Rattle.modular_judgement.specs.Verdicts.{permitted_length}
 
 -- `if !test(..)`, passed over and entered.

@@ -3,8 +3,9 @@ use Rattle.std.specs.Prelude.{ℕ, suc, ◌-◌, ◌/◌, ◌^◌, ◌≤◌, �
 use Rattle.std.proofs.Math.Bool.{and-eq-true_iff}
 use Rattle.std.proofs.Common.{arith, ltb-true, leb-true, eqb-true}
 use Rattle.answer.specs.Choice.{refuse, done, unless-done, judged-done}
-use Rattle.answer.specs.Search.{nowhere_passed}
-use Rattle.answer.specs.Lengths.{log_of, permitted_log, permitted_range}
+use Rattle.answer.proofs.Search.{nowhere_passed}
+use Rattle.answer.specs.Lengths.{log_of}
+use Rattle.answer.proofs.Lengths.{permitted_log, permitted_range}
 use Rattle.answer.specs.Lists.{at}
 use Rattle.fourier.specs.Sizes.{two_halves}
 use Rattle.fourier.specs.Table.{rule, Accepted}

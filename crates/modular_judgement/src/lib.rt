@@ -1,4 +1,6 @@
 // What the calls over residues judge, in document 01's order. Nothing here writes.
+#![tactic(auto)]
+
 ghost use Rattle.std.specs.Prelude.{◌≡◌, ◌/◌, ◌≤◌, length};
 ghost use Rattle.residues.specs.Moduli.{Permitted};
 ghost use Rattle.modular_judgement.specs.Verdicts.{offers, offers_stage, scratch_fits, lent_verdict, rest_verdict, transform_verdict, stage_verdict, inverse_verdict};

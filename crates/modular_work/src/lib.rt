@@ -1,4 +1,6 @@
 // The work of the calls over residues, on what was judged.
+#![tactic(auto)]
+
 ghost use Rattle.std.specs.Prelude.{true, ◌≡◌, ◌-◌, ◌^◌, ◌≤◌, ◌<◌, length};
 ghost use Rattle.answer.specs.Lists.{at, tabulate};
 ghost use Rattle.fourier.specs.Schedules.{step};

@@ -4,7 +4,8 @@ use Rattle.std.specs.Prelude.{◌≡◌, cond, List, eqb, ℤ, pos, length, get_
 use Rattle.std.proofs.Common.{sym, ap, ◌∙◌, ⊎_elim, add-one, length-set, get_or-set_same, get_or-set_other, eq-eqb, ne_eqb}
 use native.Mathlib.Omega.{arith}
 use Rattle.answer.specs.Cases.{eq_or_ne}
-use Rattle.answer.specs.Lists.{tabulate, Holds, length-tabulate, get_or-tabulate, listed, holds, holds_tabulate}
+use Rattle.answer.specs.Lists.{tabulate, Holds, length-tabulate}
+use Rattle.answer.proofs.Lists.{get_or-tabulate, listed, holds, holds_tabulate}
 use Rattle.points.specs.declared.Point.{Point}
 use Rattle.points.specs.Steps.{same_parts}
 

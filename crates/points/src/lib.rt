@@ -1,18 +1,20 @@
 // Points: complex numbers in fixed point. The step on two points, and points in a lent buffer.
+#![tactic(auto)]
+
 ghost use Rattle.std.specs.Prelude.{◌≡◌, ◌+◌, ◌*◌, ◌^◌, ◌≤◌, ◌<◌, nat_abs, ◌+ℤ◌, ◌-ℤ◌, ◌*ℤ◌, length};
 ghost use Rattle.points.specs.Interleaved.{point, put};
 ghost use Rattle.points.specs.Rounding.{half_up};
 ghost use Rattle.points.specs.Steps.{plus, turned, each_part, Sized, Turn};
 
 // A complex number in two parts.
-#[derive(Drop)]
+#[derive(Clone, Copy)]
 pub struct Point {
     pub re: i32,
     pub im: i32,
 }
 
 // What the two places of a pair receive.
-#[derive(Drop)]
+#[derive(Clone, Copy)]
 pub struct Parts(pub Point, pub Point);
 
 // The step of a stage on a pair of places that hold a and b, where t is the table's pair at the exponent.

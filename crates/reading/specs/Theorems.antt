@@ -11,7 +11,8 @@ use borrow.Author.Tests.{ltb-true, lt-leb, eq-eqb}
 use Rattle.answer.specs.declared.Answer.{Answer}
 use Rattle.answer.specs.Choice.{refuse_at, done_left}
 use Rattle.answer.specs.Lists.{at, length-tabulate}
-use Rattle.answer.specs.Lengths.{log_of, permitted_range}
+use Rattle.answer.specs.Lengths.{log_of}
+use Rattle.answer.proofs.Lengths.{permitted_range}
 use Rattle.groups.specs.declared.Number.{Number}
 use Rattle.groups.specs.declared.Number.TheVariants.{Value, Fault}
 use Rattle.groups.specs.Groups.{number_at}

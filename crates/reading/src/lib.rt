@@ -1,4 +1,6 @@
 // A request as it is read: several numbers, one behind the other; the table, the samples, and their transform.
+#![tactic(auto)]
+
 ghost use Rattle.std.specs.Prelude.{◌≡◌, true, ◌/◌, ◌≤◌, length, take};
 ghost use Rattle.std.proofs.lemmas.List.Edits.{sets};
 ghost use Rattle.modular_judgement.specs.Verdicts.{offers, permitted_length};
@@ -8,7 +10,7 @@ use answer::Answer;
 use groups::Number;
 
 // The place behind the last of several numbers, or the place of the first fault.
-#[derive(Drop)]
+#[derive(Clone, Copy)]
 pub enum Many {
     All(usize),
     Broken(usize),

@@ -1,4 +1,6 @@
 // What `dft` is asked and answers, over a byte slice.
+#![tactic(auto)]
+
 ghost use Rattle.std.specs.Prelude.{◌≡◌, ◌≤◌, length, take};
 ghost use Rattle.std.proofs.lemmas.List.Edits.{sets};
 ghost use Rattle.reading.specs.Requests.{asked};
@@ -8,7 +10,7 @@ use answer::Answer;
 use reading::Many;
 
 // What a request is answered: number and place, and how many results there are.
-#[derive(Drop)]
+#[derive(Clone, Copy)]
 pub struct Reply {
     pub answer: Answer,
     pub count: usize,

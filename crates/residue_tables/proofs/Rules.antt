@@ -9,7 +9,8 @@ use native.Mathlib.Omega.{arith}
 use lib.Dec.{ltb, eqb}
 use borrow.Author.Tests.{lt-ltb, le-ltb, eq-eqb, ne_eqb}
 use Rattle.answer.specs.Cases.{eq_or_ne}
-use Rattle.answer.specs.Search.{first, Passed, passed_none, passed_more, first_passed, first_failed}
+use Rattle.answer.specs.Search.{first, Passed, passed_none, passed_more}
+use Rattle.answer.proofs.Search.{first_passed, first_failed}
 use Rattle.answer.specs.declared.Found.TheVariants.{At, Nowhere}
 use Rattle.fourier.specs.Table.{root, wanted, rule}
 

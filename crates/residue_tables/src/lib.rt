@@ -1,4 +1,6 @@
 // The judgement of tables and samples over residues.
+#![tactic(auto)]
+
 ghost use Rattle.std.specs.Prelude.{◌≡◌, ◌-◌, ◌≤◌, eqb, length};
 ghost use Rattle.answer.specs.Lists.{at};
 ghost use Rattle.fourier.specs.Table.{root};

@@ -6,10 +6,11 @@ use Rattle.std.proofs.Math.Bool.{true}
 use Rattle.std.proofs.Math.Nat.{two-pow-succ}
 use borrow.Author.Tests.{lt-ltb, eq-eqb, ne_eqb}
 use Rattle.algebra.specs.Solver.{:1, ◌:*◌, :neg, ring}
-use Rattle.algebra.specs.Sum.{pow, pow_zero, pow-plus, pow-times, one-pow}
+use Rattle.algebra.specs.Sum.{pow, pow-zero, pow-plus, pow-times, one-pow}
 use Rattle.algebra.specs.Modulo.{modulo, of_minus, of_injective}
 use Rattle.answer.specs.Lists.{at}
-use Rattle.fourier.specs.Table.{root, wanted, rule, Accepted, entry-below, entry-pow, root-pow}
+use Rattle.fourier.specs.Table.{root, wanted, rule, Accepted}
+use Rattle.fourier.proofs.Table.{entry-below, entry-pow, root-pow}
 
 -- With two or more entries the root is the second entry.
 root_second : (m h : ℕ) (t : ℕ → ℕ) → (h ≡ 1 → ⊥) → root m h t ≡ t 1
@@ -52,7 +53,7 @@ module _ (m : ℕ) (least : 3 ≤ m) where
 
   -- So the first entry of any accepted table, alone, is accepted for N = 2.
   pub first_entry : (h : ℕ) (t : ℕ → ℕ) → 1 ≤ h → Accepted m h t → t 0 ≡ 1
-  first_entry h t some r = of_injective m pos (entry-below m h pos t r 0 some) (omega arith) (entry-pow m h pos t r 0 some ∙ pow_zero (modulo m pos) (of (root m h t)))
+  first_entry h t some r = of_injective m pos (entry-below m h pos t r 0 some) (omega arith) (entry-pow m h pos t r 0 some ∙ pow-zero (modulo m pos) (of (root m h t)))
 
   pub first_accepted : (h : ℕ) (l : List ℕ) → 1 ≤ h → Accepted m h (at l) → Accepted m 1 (at (take 1 l))
   first_accepted h l some r = lone_accepted (at (take 1 l)) (get_or-take 1 l 0 0 (omega arith) ∙ first_entry h (at l) some r)

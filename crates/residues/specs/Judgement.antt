@@ -2,10 +2,12 @@
 use Rattle.std.specs.Prelude.{ℕ, suc, ◌<◌, ◌≤◌, ◌≡◌, Bool, List, length, ltb}
 use Rattle.std.proofs.Common.{ltb-true, lt-ltb}
 use Rattle.answer.specs.Lists.{at, holds_self, holds_every}
-use Rattle.answer.specs.Search.{first, first_passed, nowhere_passed}
+use Rattle.answer.specs.Search.{first}
+use Rattle.answer.proofs.Search.{first_passed, nowhere_passed}
 use Rattle.answer.specs.declared.Found.{Found}
 use Rattle.answer.specs.declared.Found.TheVariants.{Nowhere}
-use Rattle.fourier.specs.Table.{rule, Accepted, entry-below}
+use Rattle.fourier.specs.Table.{rule, Accepted}
+use Rattle.fourier.proofs.Table.{entry-below}
 use Rattle.residues.specs.Moduli.{Permitted}
 
 -- ---- definitions

@@ -1,4 +1,6 @@
 // Residues modulo m and exponents of the root: the arithmetic and the lookup.
+#![tactic(auto)]
+
 ghost use Rattle.std.specs.Prelude.{◌≡◌, ◌+◌, ◌<◌, length};
 ghost use Rattle.answer.specs.Lists.{at};
 ghost use Rattle.fourier.specs.Numbers.{plus_mod, minus_mod, times_mod};
@@ -8,15 +10,15 @@ ghost use Rattle.residues.specs.Judgement.{Below};
 
 // A value modulo m.
 #[repr(C)]
-#[derive(Drop)]
+#[derive(Clone, Copy)]
 pub struct Residue(pub u32);
 
 // An exponent of the root. Only `lookup` leads from an exponent to a residue.
-#[derive(Drop)]
+#[derive(Clone, Copy)]
 pub struct Exponent(pub usize);
 
 // The modulus m.
-#[derive(Drop)]
+#[derive(Clone, Copy)]
 pub struct Modulus {
     pub value: u32,
 }

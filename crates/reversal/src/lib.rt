@@ -1,4 +1,6 @@
 // Bit reversal.
+#![tactic(auto)]
+
 ghost use Rattle.std.specs.Prelude.{◌≡◌, ◌^◌, ◌≤◌, length};
 ghost use Rattle.answer.specs.Lists.{at, tabulate};
 ghost use Rattle.fourier.specs.Reverse.{rev};

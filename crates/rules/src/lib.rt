@@ -1,4 +1,6 @@
 // The rules of a table in fixed point, pair by pair.
+#![tactic(auto)]
+
 ghost use Rattle.std.specs.Prelude.{◌≡◌, pos, nat_abs, ◌+ℤ◌, ◌-ℤ◌, ◌*ℤ◌};
 ghost use Rattle.points.specs.Steps.{Turn};
 ghost use Rattle.rules.specs.Pairs.{starts, sized, near, follows, Small};

@@ -7,12 +7,14 @@ use native.Mathlib.Omega.{arith}
 use lib.ListN.{length, get_or}
 use lib.Pow.{pow_pos}
 use borrow.Rule.Slice.PartMut.{mid_of, put_mid, put_same}
-use Rattle.answer.specs.Lists.{at, tabulate, Holds, holds, listed, tabulate_self}
+use Rattle.answer.specs.Lists.{at, tabulate, Holds}
+use Rattle.answer.proofs.Lists.{holds, listed, tabulate_self}
 use Rattle.answer.proofs.Writes.{Written, written_none, written_all}
 use Rattle.answer.proofs.Parts.{mid_holds, written_part}
 use Rattle.fourier.specs.Schedules.{Wing, Buffer, butterfly, step, strided, halves}
-use Rattle.fourier.specs.Halves.{halves_half}
-use Rattle.fourier.specs.Leaves.{leaves3, local}
+use Rattle.fourier.proofs.Halves.{halves_half}
+use Rattle.fourier.specs.Leaves.{local}
+use Rattle.fourier.proofs.Leaves.{leaves3}
 use Rattle.residues.specs.Judgement.{Judged}
 use Rattle.butterflies.specs.Ways.{wing}
 use Rattle.butterflies.specs.declared.Way.{Way}

@@ -8,7 +8,8 @@ use lib.ListN.{length}
 use lib.Pow.{pow_pos, pow-add, pow_mono}
 use Rattle.answer.specs.Cases.{lt_or_ge}
 use mathlib.Core.Logic.{⊎_elim}
-use Rattle.answer.specs.Lists.{at, tabulate, holds}
+use Rattle.answer.specs.Lists.{at, tabulate}
+use Rattle.answer.proofs.Lists.{holds}
 use Rattle.fourier.specs.Sizes.{two_halves}
 use Rattle.fourier.specs.Schedules.{Stage, Buffer, butterfly, step, run}
 use Rattle.fourier.specs.Blocks.{butterfly_within}

@@ -1,4 +1,6 @@
 // Schedules 1, 3 and 4 over residues, a single stage of schedule 1, the inverse.
+#![tactic(auto)]
+
 mod columns;
 mod halves;
 mod inverse;

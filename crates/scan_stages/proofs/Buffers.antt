@@ -8,7 +8,8 @@ use lib.IntN.{ℤ, pos}
 use lib.ListN.{length, get_or, get_or-eq_default}
 use borrow.Rule.Slice.PartMut.{mid_of, put_mid}
 use Rattle.answer.specs.Cases.{lt_or_ge}
-use Rattle.answer.specs.Lists.{tabulate, Holds, length-tabulate, listed, holds}
+use Rattle.answer.specs.Lists.{tabulate, Holds, length-tabulate}
+use Rattle.answer.proofs.Lists.{listed, holds}
 use Rattle.answer.proofs.Parts.{mid_holds, put-length, put-before, put_inside, put-behind}
 use Rattle.points.specs.declared.Point.{Point}
 use Rattle.points.specs.Interleaved.{number, point, points, interleaved, point-interleaved, points-interleaved}

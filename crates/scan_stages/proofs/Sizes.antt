@@ -8,7 +8,8 @@ use lib.Dec.{lit<}
 use lib.IntN.{ℤ}
 use lib.ListN.{length}
 use borrow.Rule.Slice.PartMut.{mid_of}
-use Rattle.answer.specs.Lists.{Holds, holds, holds_every}
+use Rattle.answer.specs.Lists.{Holds, holds_every}
+use Rattle.answer.proofs.Lists.{holds}
 use Rattle.answer.proofs.Writes.{Written}
 use Rattle.fourier.specs.Schedules.{Buffer, Stage, butterfly, shuffled, shuffle, step}
 use Rattle.fourier.specs.Sizes.{two_halves}

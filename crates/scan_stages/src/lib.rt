@@ -1,4 +1,6 @@
 // Stages in place in fixed point: block after block, and in a block pair after pair.
+#![tactic(auto)]
+
 ghost use Rattle.std.specs.Prelude.{◌≡◌, ◌+◌, ◌*◌, ◌/◌, ◌^◌, ◌≤◌, ◌<◌, length};
 ghost use Rattle.fourier.specs.Schedules.{butterfly, step};
 ghost use Rattle.points.specs.Interleaved.{point, interleaved};

@@ -10,7 +10,7 @@ use lib.ListN.{length}
 use lib.Pow.{pow_pos, pow_mono}
 use borrow.Rule.Slice.PartMut.{mid_of, put_mid}
 use Rattle.answer.specs.Cases.{lt_or_ge}
-use Rattle.answer.specs.Lists.{holds}
+use Rattle.answer.proofs.Lists.{holds}
 use Rattle.answer.proofs.Parts.{mid_holds}
 use Rattle.fourier.specs.Schedules.{Wing, butterfly, step, strided, halves}
 use Rattle.points.specs.declared.Point.{Point}

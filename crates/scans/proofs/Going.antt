@@ -9,7 +9,8 @@ use lib.ListN.{length}
 use Rattle.answer.specs.Lists.{tabulate}
 use Rattle.fourier.specs.Sizes.{two_halves}
 use Rattle.fourier.specs.Schedules.{Stage, shuffle, step, run}
-use Rattle.fourier.specs.Blocks.{Within, shuffled_within, Ran, ran_next}
+use Rattle.fourier.specs.Blocks.{Within, Ran, ran_next}
+use Rattle.fourier.specs.Blocks.{shuffled_within}
 use Rattle.points.specs.Interleaved.{point, points, interleaved}
 use Rattle.points.specs.Rounding.{half_up}
 use Rattle.points.specs.Steps.{rounded}

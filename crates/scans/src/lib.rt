@@ -1,4 +1,6 @@
 // Schedules 1, 2 and 3 in fixed point.
+#![tactic(auto)]
+
 mod columns;
 mod halves;
 mod moves;

@@ -8,7 +8,7 @@ use lib.ListN.{length, set}
 use Rattle.answer.specs.Lists.{at, tabulate}
 use Rattle.answer.proofs.Writes.{Written, written_next}
 use Rattle.fourier.specs.Schedules.{Wing, Buffer, shuffled, step}
-use Rattle.fourier.specs.Sentences.{shuffled-pair}
+use Rattle.fourier.proofs.Sentences.{shuffled-pair}
 use Rattle.fourier.specs.Sizes.{two_halves}
 use Rattle.fourier.specs.Blocks.{shuffled_within}
 use Rattle.butterflies.specs.Ways.{wing}

@@ -1,4 +1,6 @@
 // Schedules 2 and 5 over residues: stages from one buffer into the other.
+#![tactic(auto)]
+
 mod moves;
 mod stages;
 mod turns;

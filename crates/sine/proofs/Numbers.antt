@@ -8,7 +8,8 @@ use lib.Dec.{lit≤}
 use lib.Pow.{pow_pos}
 use borrow.Author.Tests.{eq-eqb, ne_eqb}
 use Rattle.answer.specs.Cases.{eq_or_ne}
-use Rattle.answer.specs.Lengths.{log_of, permitted_log}
+use Rattle.answer.specs.Lengths.{log_of}
+use Rattle.answer.proofs.Lengths.{permitted_log}
 use Rattle.fourier.specs.Sizes.{two_halves}
 use Rattle.points.specs.Interleaved.{number, part}
 use Rattle.sine.specs.Constant.{sine}

@@ -7,7 +7,8 @@ use Rattle.std.proofs.Math.Pow.{pow-lt}
 use borrow.Author.Tests.{lt-ltb}
 use Rattle.answer.specs.Choice.{refuse_at}
 use Rattle.answer.specs.Lengths.{power_permitted}
-use Rattle.answer.specs.Search.{first, first_failed, nowhere_passed}
+use Rattle.answer.specs.Search.{first}
+use Rattle.answer.proofs.Search.{first_failed, nowhere_passed}
 use Rattle.answer.specs.declared.Found.TheVariants.{At, Nowhere}
 use Rattle.answer.specs.declared.Answer.{Answer}
 use Rattle.fourier.specs.Sizes.{two_halves}

@@ -2,7 +2,8 @@
 use Rattle.std.specs.Prelude.{ℕ, ◌-◌, ◌/◌, ◌^◌, ◌≤◌, ◌≡◌, true, List, ltb, ℤ, length}
 use Rattle.std.proofs.Common.{sym, ap, ◌∙◌, arith, ltb-true, lt-ltb}
 use Rattle.answer.specs.Choice.{refuse, done, unless, if_done, unless-done}
-use Rattle.answer.specs.Lengths.{log_of, power_permitted, permitted_log}
+use Rattle.answer.specs.Lengths.{log_of, power_permitted}
+use Rattle.answer.proofs.Lengths.{permitted_log}
 use Rattle.answer.specs.declared.Answer.{Answer}
 use Rattle.fourier.specs.Sizes.{two_halves}
 use Rattle.tables.specs.Acceptance.{AcceptOutcome, AcceptedTable, accepted_done}

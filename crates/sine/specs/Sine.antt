@@ -9,7 +9,8 @@ use Rattle.std.proofs.Math.Nat.{mul-le-mul_left}
 use Rattle.std.proofs.Math.ListN.{get_or-append}
 use Rattle.std.proofs.Math.Pow.{pow_pos}
 use Rattle.answer.specs.Lists.{length-tabulate}
-use Rattle.answer.specs.Search.{first, nowhere_passed}
+use Rattle.answer.specs.Search.{first}
+use Rattle.answer.proofs.Search.{nowhere_passed}
 use Rattle.answer.specs.declared.Found.TheVariants.{Nowhere}
 use Rattle.fourier.specs.Sizes.{rows, two_halves}
 use Rattle.points.specs.Interleaved.{number, point, interleaved, point-interleaved}

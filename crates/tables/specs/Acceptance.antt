@@ -3,7 +3,8 @@ use Rattle.std.specs.Prelude.{ℕ, suc, ◌/◌, ◌≤◌, ◌≡◌, List, ltb
 use Rattle.std.proofs.Common.{sym, ap, ◌∙◌, arith, ltb-true, lt-ltb}
 use Rattle.answer.specs.Choice.{refuse, refuse_at, done, unless, judged_at, unless-done, unless_past, judged-done, judged_here}
 use Rattle.answer.specs.Lengths.{log_of}
-use Rattle.answer.specs.Search.{FailsFirst, first_passed, nowhere_passed, at_failed}
+use Rattle.answer.specs.Search.{FailsFirst}
+use Rattle.answer.proofs.Search.{first_passed, nowhere_passed, at_failed}
 use Rattle.answer.specs.declared.Answer.{Answer}
 use Rattle.points.specs.Interleaved.{point}
 use Rattle.tables.specs.Rules.{rule, Accepted, bad_pair}

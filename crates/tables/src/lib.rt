@@ -1,4 +1,6 @@
 // Tables in fixed point: their rules and acceptance.
+#![tactic(auto)]
+
 mod accepting;
 mod judging;
 

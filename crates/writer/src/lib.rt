@@ -1,10 +1,12 @@
 // The writer of numbers in groups of seven bits.
+#![tactic(auto)]
+
 ghost use Rattle.std.specs.Prelude.{◌≡◌, length};
 ghost use Rattle.groups.specs.Groups.{bytes_of};
 ghost use Rattle.writer.specs.Outcomes.{PutOutcome};
 
 // What the writer answers: the place behind the number, or that there is no room for it.
-#[derive(Drop)]
+#[derive(Clone, Copy)]
 pub enum Put {
     Behind(usize),
     NoRoom,

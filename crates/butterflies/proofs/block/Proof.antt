@@ -3,7 +3,8 @@ use lib.ListN.{length-set}
 use Prim.Native.Nat.{◌≤◌, ◌-◌}
 use native.Mathlib.Omega.{arith}
 use lib.ListN.{length}
-use Rattle.answer.specs.Lists.{at, listed}
+use Rattle.answer.specs.Lists.{at}
+use Rattle.answer.proofs.Lists.{listed}
 use Rattle.answer.proofs.Pairs.{Paired, paired_none, paired_all}
 use Rattle.fourier.specs.Schedules.{butterfly, step}
 use Rattle.butterflies.specs.Ways.{wing}

@@ -2,7 +2,8 @@ use Prim.Native.Nat.{ℕ, ◌≤◌, ◌-◌, ◌+◌, ◌*◌}
 use mathlib.Core.Path.{◌≡◌, ap, ◌∙◌}
 use native.Mathlib.Omega.{arith}
 use lib.ListN.{length}
-use Rattle.answer.specs.Lists.{at, listed, holds_self}
+use Rattle.answer.specs.Lists.{at, holds_self}
+use Rattle.answer.proofs.Lists.{listed}
 use Rattle.answer.proofs.Writes.{Written, written_none, written_all}
 use Rattle.answer.proofs.Parts.{mid_holds}
 use Rattle.fourier.specs.Schedules.{butterfly, step}

@@ -6,7 +6,8 @@ use lib.ListN.{length}
 use mir.Syntax.{w32}
 use borrow.Author.Rules.{rules}
 use borrow.Author.Tests.{not-true, not-false}
-use Rattle.answer.specs.Search.{Passed, passed_none, passed_more, first_passed, first_failed}
+use Rattle.answer.specs.Search.{Passed, passed_none, passed_more}
+use Rattle.answer.proofs.Search.{first_passed, first_failed}
 use Rattle.points.proofs.Fits.{back}
 use Rattle.fixed_judgement.specs.Verdicts.{in_range, ranged}
 use Rattle.fixed_judgement.proofs.judge_samples.Statement.{statement}

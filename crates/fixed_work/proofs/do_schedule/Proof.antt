@@ -4,7 +4,7 @@ use native.Mathlib.Omega.{arith}
 use lib.ListN.{length}
 use borrow.Author.Tests.{eqb-true}
 use borrow.Author.Rules.{rules}
-use Rattle.fourier.specs.Halves.{halves_once}
+use Rattle.fourier.proofs.Halves.{halves_once}
 use Rattle.fixed_judgement.specs.Verdicts.{scratch_fits}
 use Rattle.fixed_work.specs.Works.{by_schedule, cleared}
 use Rattle.fixed_work.proofs.do_schedule.Statement.{statement}

@@ -2,7 +2,7 @@
 use mathlib.Core.Path.{◌≡◌, ap, ◌∙◌}
 use native.Mathlib.Omega.{arith}
 use lib.ListN.{length}
-use Rattle.answer.specs.Lengths.{permitted_log}
+use Rattle.answer.proofs.Lengths.{permitted_log}
 use Rattle.house.specs.Filling.{verdict, Ready, done_ready}
 use borrow.Author.Tests.{ne_eqb}
 use borrow.Author.Rules.{rules}

@@ -6,7 +6,8 @@ use native.Mathlib.Omega.{arith}
 use borrow.Author.Rules.{rules}
 use borrow.Author.Tests.{not-true, not-false, lt-ltb}
 use Rattle.answer.specs.Choice.{refuse_at, done, unless}
-use Rattle.answer.specs.Lengths.{table_log, permitted_log}
+use Rattle.answer.specs.Lengths.{table_log}
+use Rattle.answer.proofs.Lengths.{permitted_log}
 use Rattle.residues.specs.Moduli.{permits, permits_permitted}
 use Rattle.house.specs.Filling.{verdict, table-length}
 use Rattle.house.proofs.judge.Statement.{statement}

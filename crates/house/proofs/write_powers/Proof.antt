@@ -1,11 +1,12 @@
 -- In front of `i` the table holds the powers, and `power` is the next one.
 use Prim.Native.Nat.{◌-◌, ◌%◌, ◌^◌, ◌≤◌}
 use mathlib.Core.Path.{◌≡◌, sym, ◌∙◌}
-use native.Mathlib.Nat.{pow_zero, mod-lt, mod-eq_of_lt}
+use native.Mathlib.Nat.{pow-zero, mod-lt, mod-eq_of_lt}
 use native.Mathlib.Numerals.{add-one}
 use native.Mathlib.Omega.{arith}
 use lib.ListN.{length}
-use Rattle.answer.specs.Lists.{at, listed, holds_self}
+use Rattle.answer.specs.Lists.{at, holds_self}
+use Rattle.answer.proofs.Lists.{listed}
 use Rattle.answer.proofs.Writes.{Written, written_none, written_next, written_all}
 use Rattle.house_rows.specs.Powers.{powers, power_next}
 use borrow.Author.Rules.{rules}
@@ -20,7 +21,7 @@ abbrev decreases-loop : tie.decreases-loop
 decreases-loop table₀ x m power₀ i₀ table power i = length table₀ - i
 
 loop-holds : tie.Need-loop-init invariant-loop decreases-loop
-loop-holds c = (omega arith, rw pow_zero (sym (mod-eq_of_lt (omega (arith, c.before.requires.0.least)))), written_none (holds_self _))
+loop-holds c = (omega arith, rw pow-zero (sym (mod-eq_of_lt (omega (arith, c.before.requires.0.least)))), written_none (holds_self _))
 
 mul-table : tie.Need-overflow-mul-table invariant-loop decreases-loop
 mul-table c = search rules

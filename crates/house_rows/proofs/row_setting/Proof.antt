@@ -3,7 +3,7 @@ use Prim.Native.Nat.{suc, ◌-◌, ◌≤◌}
 use mathlib.Core.Path.{refl, ap}
 use native.Mathlib.Omega.{arith}
 use lib.ListN.{get_or}
-use Rattle.answer.specs.Lists.{listed}
+use Rattle.answer.proofs.Lists.{listed}
 use Rattle.answer.proofs.Writes.{Written, written_none, written_next, written_all}
 use Rattle.house_rows.specs.Rows.{modulus_of, root_of, constants, constant, constant-root}
 use Rattle.house_rows.specs.Settings.{residue, row_setting}

@@ -3,7 +3,7 @@ use native.Mathlib.Omega.{arith}
 use lib.ListN.{length}
 use Rattle.answer.specs.Lists.{at}
 use Rattle.fourier.specs.Sizes.{two_halves}
-use Rattle.fourier.specs.Halves.{halves_once}
+use Rattle.fourier.proofs.Halves.{halves_once}
 use Rattle.modular_work.specs.Works.{by_schedule}
 use Rattle.modular_work.proofs.Scratch.{untouched, zeroed, scratch_long}
 use borrow.Author.Rules.{rules}

@@ -3,7 +3,8 @@ use borrow.Author.Rules.{rules}
 use lib.Seq.{length-take-le}
 use native.Mathlib.Omega.{arith}
 use borrow.Author.Tests.{ltb-true}
-use Rattle.answer.specs.Lengths.{log_of, permitted_range}
+use Rattle.answer.specs.Lengths.{log_of}
+use Rattle.answer.proofs.Lengths.{permitted_range}
 use Rattle.modular_judgement.proofs.Tests.{passed, failed, long, short}
 use Rattle.request.proofs.Giving.{given_refused, not_offered, not_permitted, given_none, given_results}
 use Rattle.request.proofs.asked.Statement.{statement}

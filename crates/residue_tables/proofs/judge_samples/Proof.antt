@@ -5,7 +5,8 @@ use native.Mathlib.Omega.{arith}
 use lib.ListN.{length}
 use borrow.Author.Tests.{lt-ltb, le-ltb}
 use borrow.Author.Rules.{rules}
-use Rattle.answer.specs.Search.{Passed, passed_none, passed_more, first_passed, first_failed}
+use Rattle.answer.specs.Search.{Passed, passed_none, passed_more}
+use Rattle.answer.proofs.Search.{first_passed, first_failed}
 use Rattle.residues.specs.Judgement.{below}
 use Rattle.residue_tables.proofs.judge_samples.Statement.{statement}
 use Rattle.residue_tables.proofs.judge_samples.Tie as tie

@@ -3,7 +3,8 @@ use Prim.Native.Nat.{◌-◌, ◌≤◌, ◌<◌}
 use mathlib.Core.Logic.{⊎_elim}
 use native.Mathlib.Omega.{arith}
 use lib.ListN.{length, length-set}
-use Rattle.answer.specs.Lists.{at, listed, holds_self}
+use Rattle.answer.specs.Lists.{at, holds_self}
+use Rattle.answer.proofs.Lists.{listed}
 use Rattle.answer.proofs.Swaps.{Exchanged, exchanged_none, exchanged_stay, exchanged_swap, exchanged_all}
 use Rattle.fourier.specs.Reverse.{rev, rev_lt}
 use Rattle.reversal.proofs.Bits.{rev_partners}

@@ -1,7 +1,8 @@
 use native.Mathlib.Omega.{arith}
 use Rattle.answer.specs.Choice.{refuse, done}
 use mathlib.Core.Path.{◌≡◌, refl}
-use Rattle.answer.specs.Lengths.{log_of, permitted_log}
+use Rattle.answer.specs.Lengths.{log_of}
+use Rattle.answer.proofs.Lengths.{permitted_log}
 use Rattle.modular.proofs.Leaving.{refused, worked}
 use Rattle.modular_judgement.proofs.Tests.{long}
 use borrow.Author.Tests.{ltb-true}

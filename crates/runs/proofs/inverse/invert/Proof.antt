@@ -5,7 +5,8 @@ use mathlib.Core.List.{List}
 use native.Mathlib.Nat.{mod-lt}
 use native.Mathlib.Omega.{arith}
 use lib.ListN.{length}
-use Rattle.answer.specs.Lists.{at, tabulate, holds, listed}
+use Rattle.answer.specs.Lists.{at, tabulate}
+use Rattle.answer.proofs.Lists.{holds, listed}
 use Rattle.fourier.specs.Schedules.{thong, schedule4}
 use Rattle.fourier.specs.Numbers.{times_mod, back_mod, inverse_mod}
 use Rattle.butterflies.specs.declared.Way.TheVariants.{Back}

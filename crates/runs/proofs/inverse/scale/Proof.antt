@@ -3,7 +3,8 @@ use Prim.Native.Nat.{◌-◌, ◌≤◌, ◌<◌}
 use mathlib.Core.Path.{◌∙◌}
 use native.Mathlib.Omega.{arith}
 use lib.ListN.{length, length-set}
-use Rattle.answer.specs.Lists.{at, listed, holds_self}
+use Rattle.answer.specs.Lists.{at, holds_self}
+use Rattle.answer.proofs.Lists.{listed}
 use Rattle.answer.proofs.Writes.{Written, written_none, written_next, written_all}
 use Rattle.fourier.specs.Numbers.{times_mod}
 use borrow.Author.Rules.{rules}

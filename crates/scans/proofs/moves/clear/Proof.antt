@@ -4,7 +4,8 @@ use mathlib.Core.Path.{refl}
 use native.Mathlib.Omega.{arith}
 use lib.IntN.{pos}
 use lib.ListN.{length}
-use Rattle.answer.specs.Lists.{listed, holds_self}
+use Rattle.answer.specs.Lists.{holds_self}
+use Rattle.answer.proofs.Lists.{listed}
 use Rattle.answer.proofs.Writes.{Written, written_none, written_next, written_all}
 use Rattle.points.specs.Interleaved.{number}
 use borrow.Author.Rules.{rules}

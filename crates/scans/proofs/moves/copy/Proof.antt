@@ -5,7 +5,7 @@ use native.Mathlib.Omega.{arith}
 use lib.IntN.{pos}
 use lib.ListN.{length}
 use mir.Syntax.{w32}
-use Rattle.answer.specs.Lists.{listed, tabulate_self}
+use Rattle.answer.proofs.Lists.{listed, tabulate_self}
 use Rattle.answer.proofs.Writes.{Written, written_none, written_next, written_all}
 use Rattle.points.specs.Interleaved.{number}
 use Rattle.points.proofs.Fits.{back}

@@ -3,7 +3,8 @@ use Prim.Native.Nat.{◌≤◌, ◌-◌, ◌+◌, ◌*◌}
 use mathlib.Core.Path.{◌≡◌, refl}
 use native.Mathlib.Omega.{arith}
 use lib.ListN.{length, length-set}
-use Rattle.answer.specs.Lists.{at, listed}
+use Rattle.answer.specs.Lists.{at}
+use Rattle.answer.proofs.Lists.{listed}
 use Rattle.answer.proofs.Writes.{Written, written_none, written_all}
 use Rattle.fourier.specs.Schedules.{step}
 use Rattle.fourier.specs.Sizes.{two_halves}

@@ -5,7 +5,8 @@ use native.Mathlib.Omega.{arith}
 use lib.ListN.{length}
 use borrow.Author.Rules.{rules}
 use borrow.Author.Tests.{lt-ltb}
-use Rattle.answer.specs.Lengths.{log_of, permitted_range}
+use Rattle.answer.specs.Lengths.{log_of}
+use Rattle.answer.proofs.Lengths.{permitted_range}
 use Rattle.sine.specs.Filling.{fixed_fill_verdict}
 use Rattle.sine.proofs.filling.fill.Statement.{statement}
 use Rattle.sine.proofs.filling.fill.Tie as tie

@@ -5,8 +5,10 @@ use native.Mathlib.Omega.{arith}
 use lib.IntN.{pos}
 use lib.ListN.{length}
 use borrow.Author.Rules.{rules}
-use Rattle.answer.specs.Lengths.{log_of, permitted_log}
-use Rattle.answer.specs.Lists.{listed, holds_self}
+use Rattle.answer.specs.Lengths.{log_of}
+use Rattle.answer.proofs.Lengths.{permitted_log}
+use Rattle.answer.specs.Lists.{holds_self}
+use Rattle.answer.proofs.Lists.{listed}
 use Rattle.answer.proofs.Writes.{Written, written_none, written_next, written_all}
 use Rattle.fourier.specs.Sizes.{two_halves}
 use Rattle.points.specs.Interleaved.{number, part}

@@ -5,7 +5,8 @@ use native.Mathlib.Omega.{arith}
 use lib.ListN.{length}
 use borrow.Author.Rules.{rules}
 use borrow.Author.Tests.{not-true, not-false}
-use Rattle.answer.specs.Search.{Passed, passed_none, passed_more, first_passed, first_failed}
+use Rattle.answer.specs.Search.{Passed, passed_none, passed_more}
+use Rattle.answer.proofs.Search.{first_passed, first_failed}
 use Rattle.points.specs.Interleaved.{point}
 use Rattle.tables.specs.Rules.{rule}
 use Rattle.tables.proofs.judging.judge_table.Statement.{statement}
