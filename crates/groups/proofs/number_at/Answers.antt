@@ -2,9 +2,8 @@ use native.Mathlib.Omega.{arith}
 use native.Mathlib.Numerals.{add-one}
 use mathlib.Core.Path.{sym, ◌∙◌}
 use Prim.Native.Nat.{◌+◌, ◌-◌, ◌*◌, ◌<◌}
-use Rattle.groups.proofs.Reading.{Read, read_none, read_all, read_ended, read_last, read_more, unit_small, group_small}
+use Rattle.groups.proofs.Reading.{read_none, read_all, read_ended, read_last, read_more, unit_small, group_small}
 use Rattle.groups.specs.Theorems.{whole-value, whole_long, whole_large}
-use Rattle.std.proofs.Common.{rules}
 use Rattle.groups.proofs.number_at.Goals as goal
 
 pub returns-then-s-p : goal.returns-then-s-p

@@ -1,6 +1,5 @@
 -- By the two cases of the byte.
 use borrow.Author.Tests.{eq-eqb, ne_eqb}
-use Rattle.std.proofs.Common.{rules}
 use Rattle.groups.proofs.overlong.Goals as goal
 
 pub returns-then-byte-eq0 : goal.returns-then-byte-eq0

@@ -1,13 +1,9 @@
 -- The pairs with a place in front of i are exchanged.
-use Prim.Native.Nat.{◌-◌, ◌≤◌, ◌<◌}
-use mathlib.Core.Logic.{⊎_elim}
-use native.Mathlib.Omega.{arith}
-use lib.ListN.{length, length-set}
-use Rattle.answer.specs.Lists.{at, holds_self}
-use Rattle.answer.proofs.Lists.{listed}
-use Rattle.answer.proofs.Swaps.{Exchanged, exchanged_none, exchanged_stay, exchanged_swap, exchanged_all}
-use Rattle.fourier.specs.Reverse.{rev, rev_lt}
-use Rattle.reversal.proofs.Bits.{rev_partners}
+use Prim.Native.Nat.{◌-◌, ◌≤◌}
+use lib.ListN.{length}
+use Rattle.answer.specs.Lists.{at}
+use Rattle.answer.proofs.Swaps.{Exchanged}
+use Rattle.fourier.specs.Reverse.{rev}
 use Rattle.reversal.proofs.reverse.Given as goal
 
 abbrev pub invariant-loop-i : goal.invariant-loop-i

@@ -1,22 +1,21 @@
-use Prim.Native.Nat.{◌+◌, ◌*◌, ◌^◌, ◌<◌}
-use mathlib.Core.Path.{◌≡◌, ◌∙◌}
+use Prim.Native.Nat.{◌<◌}
+use mathlib.Core.Path.{◌∙◌}
 use native.Mathlib.Omega.{arith}
-use Rattle.fourier.specs.Reverse.{rev}
 use Rattle.reversal.proofs.Bits.{bit_next, bits_all, turned-below}
-use Rattle.std.proofs.Common.{rules}
 use Rattle.reversal.proofs.reversed.Goals as goal
-
-few : (c : tie.In-loop invariant-loop decreases-loop) → c.loop-left.result < 4096
-few c = let s = c.args in let l = c.loop-left in turned-below s.n s.j l.result l.rest l.left c.requires l.invariant
 
 pub loop-left-init : goal.loop-left-init
 loop-left-init c = omega arith
 
 pub overflow_add-result : goal.overflow_add-result
-overflow_add-result c = record { fits = omega (arith, few c) }
+overflow_add-result c =
+    let few : c.loop-left.result < 4096 = let s = c.args in let l = c.loop-left in turned-below s.n s.j l.result l.rest l.left c.requires l.invariant in
+    record { fits = omega (arith, few) }
 
 pub overflow_add-result-in-loop-left : goal.overflow_add-result-in-loop-left
-overflow_add-result-in-loop-left c = record { fits = omega (arith, few c) }
+overflow_add-result-in-loop-left c =
+    let few : c.loop-left.result < 4096 = let s = c.args in let l = c.loop-left in turned-below s.n s.j l.result l.rest l.left c.requires l.invariant in
+    record { fits = omega (arith, few) }
 
 pub loop-left-preserved : goal.loop-left-preserved
 loop-left-preserved c = let l = c.loop-left in l.invariant ∙ bit_next l.result l.rest l.left (omega arith)

@@ -1,9 +1,7 @@
 -- In front of each turn the answer is the result with the bits that are left, reversed, behind it.
-use Prim.Native.Nat.{◌+◌, ◌*◌, ◌^◌, ◌<◌}
-use mathlib.Core.Path.{◌≡◌, ◌∙◌}
-use native.Mathlib.Omega.{arith}
+use Prim.Native.Nat.{◌+◌, ◌*◌, ◌^◌}
+use mathlib.Core.Path.{◌≡◌}
 use Rattle.fourier.specs.Reverse.{rev}
-use Rattle.reversal.proofs.Bits.{bit_next, bits_all, turned-below}
 use Rattle.reversal.proofs.reversed.Given as goal
 
 abbrev pub invariant-loop-left : goal.invariant-loop-left
