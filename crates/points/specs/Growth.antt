@@ -3,7 +3,7 @@ use Prim.Native.Nat.{ℕ, zero, suc, ◌+◌, ◌-◌, ◌*◌, ◌/◌, ◌^◌
 use Rattle.std.proofs.Common.{add-zero, add-suc, le_refl, le_trans, le_of_suc-le-suc, add-sub_of_le, arith, lit<, lit≤}
 use Rattle.std.proofs.Math.Nat.{lt_of_mul-lt-mul_left}
 use Rattle.std.specs.Prelude.{ℤ, pos, nat_abs, ◌-ℤ◌, ◌*ℤ◌}
-use Rattle.std.proofs.Math.IntN.{-ℤ-+ℤ_cancel}
+use Rattle.std.proofs.Math.IntN as Z
 use Rattle.algebra.specs.Integers.{nat_abs-add, nat_abs_mul}
 use Rattle.fourier.specs.Array.{Exponents}
 use Rattle.fourier.specs.Schedules.{Schedule, Buffer}
