@@ -2,17 +2,13 @@
 use Prim.Native.Nat.{ℕ, zero, suc, ◌-◌, ◌*◌, ◌/◌, ◌%◌, ◌^◌, ◌<◌, ◌≤◌}
 use mathlib.Core.Path.{◌≡◌, refl}
 use mathlib.Core.Logic.{⊎_elim}
-use mathlib.Core.List.{[], ◌∷◌}
 use native.Mathlib.Nat.{mul-zero, mul-lt-mul_of_pos_left, mod-eq_of_lt, div-add-mod'}
 use native.Mathlib.Omega.{arith}
 use lib.Pow.{pow_pos, pow_mono}
-use types.Run.{OneOf}
-use denote.Enum.Declared.{tag_of}
 use Rattle.answer.specs.Cases.{lt_or_ge}
 use Rattle.fourier.specs.Sizes.{half_buffer}
 use Rattle.fourier.specs.Reverse.{rev, rev_lt}
 use Rattle.butterflies.specs.declared.Way.{Way}
-use Rattle.butterflies.specs.contracts.Way.{the_type}
 use Rattle.butterflies.specs.declared.Way.TheVariants.{Frequency, Time, Back}
 use Rattle.counting.specs.Exponents.{exponents}
 use Rattle.counting.proofs.Reversal.{rev_mod}
@@ -35,8 +31,8 @@ module _ (n s : ℕ) (l : s < n) where
   exponents-below Back k h = reversed-below (k % 2 ^ s)
 
 -- Where the second is multiplied, whatever stands above the low s bits of k.
-pub exponents-reversed : (way : Way) → OneOf (1 ∷ 2 ∷ []) (tag_of the_type way) → (n s k : ℕ) → exponents way n s k ≡ 2 ^ (n - suc s) * rev s k
-exponents-reversed Frequency other n s k = absurd (⊎_elim (λ e. omega arith) (λ e. omega arith) other)
+pub exponents-reversed : (way : Way) → (way ≡ Frequency → ⊥) → (n s k : ℕ) → exponents way n s k ≡ 2 ^ (n - suc s) * rev s k
+exponents-reversed Frequency other n s k = absurd (other refl)
 exponents-reversed Time other n s k = rw rev_mod
 exponents-reversed Back other n s k = rw rev_mod
 

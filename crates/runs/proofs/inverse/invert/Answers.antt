@@ -11,9 +11,7 @@ use Rattle.fourier.specs.Schedules.{thong, schedule4}
 use Rattle.fourier.specs.Numbers.{times_mod, back_mod, inverse_mod}
 use Rattle.butterflies.specs.declared.Way.TheVariants.{Back}
 use Rattle.runs.proofs.Stages.{run-judged}
-use borrow.Author.Rules.{rules}
-use Rattle.runs.proofs.inverse.invert.Statement.{statement}
-use Rattle.runs.proofs.inverse.invert.Tie as tie
+use Rattle.runs.proofs.inverse.invert.Goals as goal
 
 inverted : {x : ℕ} (m n : ℕ) (t l₀ : List ℕ) {l₁ l₂ : List ℕ} → x ≡ ((m + 1) / 2) ^ n % m → length t ≡ 2 ^ (n - 1) → l₁ ≡ tabulate (length l₀) (schedule4 n ℕ (back_mod m (length t) (at t)) (at l₀)) →
     l₂ ≡ tabulate (length l₁) (λ p. times_mod m x (at l₁ p)) → l₂ ≡ tabulate (length l₀) (inverse_mod m n (at t) (at l₀))
@@ -24,27 +22,14 @@ inverted m n t l₀ {l₁} {l₂} ex et e₁ e₂ =
     let long = ran.long in
     listed (record { long = scaled.long ∙ long; here = λ p h. scaled.here p (omega arith) ∙ rw (ran.here p h, ex, et) })
 
-by-thong-requires : tie.Need-by-thong-requires
-by-thong-requires c κs = search rules
+pub scale-requires : goal.scale-requires
+scale-requires c =
+    let s = c in
+    let ran = run-judged Back {m = s.args.m.value} {t = s.args.table.now} (thong s.args.n) s.args.n (length s.args.buf.now) (at s.args.buf.now) s.requires.judged s.requires.le_n.0 c.by_thong.ensures in
+    record { permitted = s.requires.judged.modulus; below = (ran.values, rw c.factor-by.ensures (mod-lt _ (omega arith))) }
 
-factor-requires : tie.Need-factor-requires
-factor-requires c κs = search rules
-
-scale-requires : tie.Need-scale-requires
-scale-requires c κs =
-    let s = c.before.before.before.before.before.before.before.before in
-    let ran = run-judged Back {m = s.args.m.value} {t = s.args.table.now} (thong s.args.n) s.args.n (length s.args.buf.now) (at s.args.buf.now) s.requires.0 s.requires.1.0 c.before.before.before.before.by-thong.ensures in
-    (s.requires.0.modulus, (ran.values, rw c.before.factor.ensures (mod-lt _ (omega arith))))
-
-same_length : tie.Need-same-length
-same_length c = search rules
-
-returns : tie.Need-returns
+pub returns : goal.returns
 returns c =
-    let a = c.before.before.before in
-    let s = a.before.before.before.before.before.before.before.before in
-    inverted s.args.m.value s.args.n s.args.table.now s.args.buf.now a.before.factor.ensures s.requires.1.2 a.before.before.before.before.by-thong.ensures c.before.before.scale.ensures
-
-pub invert-spec : {M : Type 1} → statement M
-invert-spec =
-    tie.close (tie.spec by-thong-requires factor-requires scale-requires same_length returns)
+    let a = c in
+    let s = a in
+    inverted s.args.m.value s.args.n s.args.table.now s.args.buf.now a.factor-by.ensures s.requires.le_n.2 a.by_thong.ensures c.scale.ensures
