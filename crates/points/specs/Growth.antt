@@ -3,7 +3,7 @@ use Prim.Native.Nat.{ℕ, zero, suc, ◌+◌, ◌-◌, ◌*◌, ◌/◌, ◌^◌
 use Rattle.std.proofs.Common.{add-zero, add-suc, le_refl, le_trans, le_of_suc-le-suc, add-sub_of_le, arith, lit<, lit≤}
 use Rattle.std.proofs.Math.Nat.{lt_of_mul-lt-mul_left}
 use Rattle.std.specs.Prelude.{ℤ, pos, nat_abs, ◌-ℤ◌, ◌*ℤ◌}
-use Rattle.std.proofs.Math.IntN.{-ℤ-+ℤ_cancel}
+use Rattle.std.proofs.Math.IntN as Z
 use Rattle.algebra.specs.Integers.{nat_abs-add, nat_abs_mul}
 use Rattle.fourier.specs.Array.{Exponents}
 use Rattle.fourier.specs.Schedules.{Schedule, Buffer}
@@ -36,7 +36,7 @@ module _ {rounding : Rounding} (half : Half rounding) where
   pub round_size : (D m k : ℕ) (z : ℤ) → 0 < D → 2 * m + D < 2 * (D * suc k) → nat_abs z ≤ m → nat_abs (rounding D z) ≤ k
   round_size D m k z pos-D room h =
       let size : nat_abs (pos D *ℤ rounding D z) ≤ nat_abs (pos D *ℤ rounding D z -ℤ z) + nat_abs z =
-      rw -ℤ-+ℤ_cancel at (nat_abs-add (pos D *ℤ rounding D z -ℤ z) z) in
+      rw Z.-ℤ-+ℤ_cancel at (nat_abs-add (pos D *ℤ rounding D z -ℤ z) z) in
       le_of_suc-le-suc (lt_of_mul-lt-mul_left D (omega (arith, nat_abs_mul (pos D) (rounding D z), half.errs D z pos-D)))
 
   -- The rounded step keeps the sizes.
