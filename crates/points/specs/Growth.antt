@@ -36,7 +36,7 @@ module _ {rounding : Rounding} (half : Half rounding) where
   pub round_size : (D m k : ℕ) (z : ℤ) → 0 < D → 2 * m + D < 2 * (D * suc k) → nat_abs z ≤ m → nat_abs (rounding D z) ≤ k
   round_size D m k z pos-D room h =
       let size : nat_abs (pos D *ℤ rounding D z) ≤ nat_abs (pos D *ℤ rounding D z -ℤ z) + nat_abs z =
-      rw -ℤ-+ℤ_cancel at (nat_abs-add (pos D *ℤ rounding D z -ℤ z) z) in
+      rw Z.-ℤ-+ℤ_cancel at (nat_abs-add (pos D *ℤ rounding D z -ℤ z) z) in
       le_of_suc-le-suc (lt_of_mul-lt-mul_left D (omega (arith, nat_abs_mul (pos D) (rounding D z), half.errs D z pos-D)))
 
   -- The rounded step keeps the sizes.
