@@ -1,19 +1,19 @@
 -- What the tests of a call tell.
 use Prim.Native.Nat.{ℕ, ◌/◌, ◌≤◌}
 use mathlib.Core.Path.{◌≡◌, sym, ◌∙◌}
-use mathlib.Core.Bool.{Bool, true, false, not}
+use mathlib.Core.Bool.{Bool, true, false}
 use native.Mathlib.Omega.{arith}
-use borrow.Author.Tests.{not-true, not-false, lt-ltb, le-ltb, ltb-true}
+use borrow.Author.Tests.{lt-ltb, le-ltb, ltb-true}
 use Rattle.answer.specs.Lengths.{log_of}
 use Rattle.answer.proofs.Lengths.{permitted_range}
 use Rattle.modular_judgement.specs.Verdicts.{permitted_length}
 
 -- `if !test(..)`, passed over and entered.
-pub passed : {b r : Bool} → r ≡ b → not r ≡ false → b ≡ true
-passed e t = sym e ∙ not-false _ t
+pub passed : {b r : Bool} → r ≡ b → r ≡ true → b ≡ true
+passed e t = sym e ∙ t
 
-pub failed : {b r : Bool} → r ≡ b → not r ≡ true → b ≡ false
-failed e t = sym e ∙ not-true _ t
+pub failed : {b r : Bool} → r ≡ b → r ≡ false → b ≡ false
+failed e t = sym e ∙ t
 
 -- `if log_of(N) == 0`, passed over.
 pub long : (N : ℕ) {r : ℕ} → r ≡ log_of N → (r ≡ 0 → ⊥) → permitted_length N ≡ true
