@@ -10,8 +10,9 @@ use Rattle.fourier.specs.Sizes.{two_halves}
 use Rattle.fourier.specs.Table.{root, Accepted}
 use Rattle.residues.specs.Moduli.{permits, Permitted, permits_permitted, permitted_permits}
 use Rattle.house_rows.specs.declared.Setting.{Setting}
-use Rattle.house_rows.specs.Powers.{powers, turns, Turns, turns_facts, facts_turns, powers-root, powers_accepted}
-use Rattle.house_rows.specs.Rows.{row_permitted, root_below, root-turns}
+use Rattle.house_rows.specs.Powers.{powers, turns, Turns, powers-root, powers_accepted}
+use Rattle.house_rows.proofs.Powers.{turns_facts, facts_turns}
+use Rattle.house_rows.proofs.Rows.{row_permitted, root_below, root-turns}
 use Rattle.house_rows.specs.Settings.{root_for, row_setting, root_for_row}
 
 -- ---- definitions

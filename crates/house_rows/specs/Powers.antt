@@ -1,12 +1,11 @@
 -- The powers of a root modulo m: one after the other, by squares, and as a table that is accepted.
 use Prim.Native.Nat.{ℕ, zero, suc, ◌-◌, ◌*◌, ◌%◌, ◌^◌, ◌<◌, ◌≤◌}
-use Rattle.std.specs.Prelude.{◌≡◌, refl, Bool, true, ◌&&◌, List, ltb, eqb}
+use Rattle.std.specs.Prelude.{◌≡◌, refl, Bool, ◌&&◌, List, ltb, eqb}
 use Rattle.std.proofs.Common.{sym, ◌∙◌, le_refl, one-mul, pow-suc, mod-lt, mod-eq_of_lt, pow-add}
-use Rattle.std.proofs.Math.Bool.{and-eq-true_iff}
 use Rattle.std.proofs.Math.Logic.{⊎_elim}
 use Rattle.std.proofs.Math.Nat.{pow-zero, two-pow-succ}
 use native.Mathlib.Omega.{arith}
-use borrow.Author.Tests.{ltb-true, eqb-true, lt-ltb, le-ltb, eq-eqb, ne_eqb}
+use borrow.Author.Tests.{lt-ltb, le-ltb, eq-eqb, ne_eqb}
 use Rattle.algebra.specs.Gaps.{mod_mul_left, mod_mul_right}
 use Rattle.answer.specs.Cases.{lt_or_ge, eq_or_ne}
 use Rattle.answer.specs.Lists.{at, tabulate}
@@ -40,16 +39,6 @@ power_squared m x k = rw (mod_mul_left, mod_mul_right, two-pow-succ, pow-add)
 pub record Turns (m x h : ℕ) : Type 0 where
   pub below : x < m
   pub turn : x ^ h % m ≡ m - 1
-
-pub turns_facts : (m x h : ℕ) → turns m x h ≡ true → Turns m x h
-unfolding turns
-turns_facts m x h e =
-    let both = (and-eq-true_iff _ _).0 e in
-    record { below = ltb-true _ _ both.0; turn = eqb-true _ _ both.1 }
-
-pub facts_turns : (m x h : ℕ) → Turns m x h → turns m x h ≡ true
-unfolding turns
-facts_turns m x h r = rw (lt-ltb x m r.below, eq-eqb (x ^ h % m) (m - 1) r.turn)
 
 -- ---- a table of powers is accepted
 
