@@ -15,7 +15,7 @@ use Rattle.fourier.specs.Sizes.{two_halves}
 use Rattle.points.specs.Interleaved.{point}
 use Rattle.tables.specs.Rules.{bad_pair}
 use Rattle.tables.specs.Acceptance.{AcceptOutcome, fixed_accept_verdict}
-use Rattle.tables.specs.Closing.{beginning_fails}
+use Rattle.tables.proofs.Closing.{beginning_fails}
 use Rattle.sine.specs.Constant.{sine}
 use Rattle.sine.specs.Sine.{sine_pair, sine_table, stride, sine_accepted, sine_table-length, sine_table-pair}
 

@@ -1,4 +1,3 @@
--- Tables in fixed point: the rules, acceptance alone, and a table's beginning.
+-- Tables in fixed point: the rules and acceptance alone.
 pub mod Rules
 pub mod Acceptance
-pub mod Closing
