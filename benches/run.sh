@@ -3,12 +3,11 @@
 # of docs/BENCHMARKS.md. Exit status 1 where a bar is missed.
 #     sh benches/run.sh [TURNS]
 cd "$(dirname "$0")/.." || exit 2
-[ "$(uname -m)" = x86_64 ] || { echo "run.sh: the library is for x86-64, and a time under an emulator says nothing" >&2; exit 2; }
 . tests/outside/ready.sh
 need g++ libntl-dev libgmp-dev libfftw3-dev libkissfft-dev
 archive meter
 archive kernels
 g++ -O3 -c -o "$room/others.o" benches/others.cc || exit 1
-rustc -O --edition 2021 -L target/staticlib -C link-arg="$room/others.o" -C link-args='-lntl -lgmp -lfftw3 -lkissfft-float -lstdc++ -lm' \
+rustc -O --edition 2021 -L crates/meter/out -L crates/kernels/out -C link-arg="$room/others.o" -C link-args='-lntl -lgmp -lfftw3 -lkissfft-float -lstdc++ -lm' \
     -o "$room/speed" benches/main.rs || exit 1
 "$room/speed" "$@"

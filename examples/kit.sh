@@ -1,13 +1,13 @@
-# To be read with `.` at the repository's root: how what rt builds is made and started here.
-#     archive NAME    target/staticlib/libNAME.a, as the crates are now
-# `emulator` is the kit's, or nothing on x86-64 itself; `loader` is what stands before a program that rt built: the emulator, and the kit's
-# loader with its C library.
-tools=$(dirname "$(dirname "$(rt doc)")")/on/$(uname -m)/toolchain
-emulator=$tools/bin/qemu-x86_64
-[ -x "$emulator" ] || emulator=''
-loader="$emulator $tools/lib/ld-linux-x86-64.so.2 --library-path $tools/lib"
+# To be read with `.` at the repository's root: makes what rt builds, for x86-64.
+#     archive NAME    crates/NAME/out/libNAME.a, as the crates are now
+#     program NAME    crates/NAME/out/NAME, as the crates are now
+[ "$(uname -m)" = x86_64 ] || { echo 'the library and the program are for x86-64' >&2; exit 2; }
 
 archive() {
     echo "proving $1 and writing its archive; from nothing this takes a few minutes" >&2
-    told=$(rt staticlib "$1" 2>&1) || { echo "$told" >&2; exit 1; }
+    told=$(cd "crates/$1" && rt lib 2>&1) || { echo "$told" >&2; exit 1; }
+}
+
+program() {
+    told=$(cd "crates/$1" && rt run <stdin 2>&1) || { echo "$told" >&2; exit 1; }
 }

@@ -1,6 +1,6 @@
 #!/bin/sh
 # Decimal numbers to dft's input and back. Numbers stand on standard input, with spaces or newlines between them:
-#     echo 5 1 4  1 2  1 2 3 4 | sh examples/numbers.sh pack | sh examples/program.sh target/bin/dft
+#     echo 5 1 4  1 2  1 2 3 4 | sh examples/numbers.sh pack | sh examples/program.sh crates/dft/out/dft
 #     sh examples/numbers.sh unpack <file
 # dft's input is m, schedule, N, the table's N/2 entries and the N samples, each in groups of seven bits.
 set -f

@@ -2,9 +2,10 @@
 # Builds dft, runs it on document 01's example and on a scan of 4,096 points.
 cd "$(dirname "$0")/.." || exit 2
 echo 'proving and building dft; the first time this takes a minute or two'
-told=$(rt check dft 2>&1) || { echo "$told"; exit 1; }
+. examples/kit.sh
+program dft
 dft() {
-    sh examples/numbers.sh pack | sh examples/program.sh target/bin/dft
+    sh examples/numbers.sh pack | sh examples/program.sh crates/dft/out/dft
 }
 echo 'modulo 5, schedule 1, table 1 2, samples 1 2 3 4:'
 echo 5 1 4 1 2 1 2 3 4 | dft

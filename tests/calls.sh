@@ -22,13 +22,13 @@ while read -r line; do
     grep -qF "$line" tests/meter/values.c || { echo "tests/meter/values.c lacks the header's example: $line"; exit 1; }
 done <"$made/examples"
 sed -n '/^    #include "fandrute.h"/,/^    }$/ s/^    //p' README.md >"$made/readme.c"
-compile "$made/readme" "$made/readme.c" && $emulator "$made/readme" || { echo "README.md's program failed"; exit 1; }
+compile "$made/readme" "$made/readme.c" && "$made/readme" || { echo "README.md's program failed"; exit 1; }
 compile "$made/values" tests/meter/values.c || exit 1
-$emulator "$made/values" || exit 1
+"$made/values" || exit 1
 
 compile "$made/calls" tests/meter/calls.c || exit 1
-told=$(rt check dft 2>&1) || { echo "$told"; exit 1; }
+program dft
 rustc -O --edition 2021 -o "$made/reading" tests/reading/main.rs || exit 1
 "$made/reading" check || exit 1
-"$made/reading" calls $emulator "$made/calls" || exit 1
-"$made/reading" requests "$made" $loader target/bin/dft
+"$made/reading" calls "$made/calls" || exit 1
+"$made/reading" requests "$made" crates/dft/out/dft

@@ -12,7 +12,7 @@ sed -n '/^## Wrong programs/,/^## Kernel/ s/^|[^|]*|\([^|]*\)|[^|]*|$/\1/p' docs
 diff "$made/named" "$made/there" || { echo "docs/CONTRACTS.md (<) and the edits (>) differ"; exit 1; }
 awk -F'|' '
     function fault(words) { print FILENAME ":" FNR ": " words; bad = 1 }
-    $4 ~ /`[a-z_]*\/(specs|src)\// {
+    $4 ~ /`[a-z_]*\/(specs|proofs|src)\// {
         files = split($4, file, "`")
         names = split($3, name, "`")
         split("", met)
@@ -21,7 +21,7 @@ awk -F'|' '
             lines = 0
             while ((getline text < ("crates/" file[f])) > 0) {
                 lines++
-                words = split(text, word, /[^A-Za-z0-9_′-]+/)
+                words = split(text, word, /[^A-Za-z0-9_'"'"'-]+/)
                 for (w = 1; w <= words; w++)
                     for (n = 2; n <= names; n += 2)
                         if (word[w] == name[n]) met[n] = of_file = 1

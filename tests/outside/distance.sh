@@ -7,7 +7,7 @@ cd "$(dirname "$0")/../.." || exit 2
 . tests/outside/ready.sh
 need g++ libgmp-dev python3
 archive meter
-build distance target/staticlib/libmeter.a -lgmpxx -lgmp
+build distance crates/meter/out/libmeter.a -lgmpxx -lgmp
 seed=${1:-1} effort=${2:-2}
 echo "seed $seed, effort $effort"
 "$room/distance" "$seed" "$effort" "$room/made" || exit 1

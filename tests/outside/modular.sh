@@ -2,11 +2,10 @@
 # The calls over residues beside FLINT and PARI, which know nothing of them: sums, inverse and acceptance, for moduli of every kind.
 #     sh tests/outside/modular.sh [SEED]
 cd "$(dirname "$0")/../.." || exit 2
-[ "$(uname -m)" = x86_64 ] || { echo "$0: the library is for x86-64" >&2; exit 2; }
 . tests/outside/ready.sh
 need g++ libflint-dev pari-gp
 archive meter
-build modular target/staticlib/libmeter.a -lflint
+build modular crates/meter/out/libmeter.a -lflint
 seed=${1:-1}
 echo "seed $seed"
 pari() { # FILE DEFINITION

@@ -7,7 +7,7 @@ cd "$(dirname "$0")/../.." || exit 2
 . tests/outside/ready.sh
 need g++ libfftw3-dev
 archive meter
-build spectra target/staticlib/libmeter.a -lfftw3
+build spectra crates/meter/out/libmeter.a -lfftw3
 seed=${1:-1}
 echo "seed $seed"
 "$room/spectra" "$seed"
