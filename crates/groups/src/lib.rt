@@ -11,6 +11,9 @@ pub enum Number {
     Fault(usize),
 }
 
+// The largest number.
+const LARGEST: u64 = 4294967295;
+
 fn wide(byte: u8) -> u64
     ensures { (result ≡ byte) × (result < 256) }
 {
@@ -47,7 +50,7 @@ pub fn number_at(s: &[u8], p: usize) -> Number
             if overlong(i, byte) {
                 return Number::Fault(p);
             }
-            if 4294967295 < value {
+            if LARGEST < value {
                 return Number::Fault(p);
             }
             return Number::Value(value as u32, p + i + 1);

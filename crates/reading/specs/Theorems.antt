@@ -16,7 +16,8 @@ use Rattle.answer.proofs.Lengths.{permitted_range}
 use Rattle.groups.specs.declared.Number.{Number}
 use Rattle.groups.specs.declared.Number.TheVariants.{Value, Fault}
 use Rattle.groups.specs.Groups.{number_at}
-use Rattle.groups.specs.Theorems.{clash, number_begun, number-near}
+use Rattle.groups.specs.Theorems.{clash, number_begun}
+use Rattle.groups.proofs.Theorems.{number-near}
 use Rattle.modular_judgement.specs.Verdicts.{offers, permitted_length, through_scratch, scratch_fits, lent_verdict, rest_verdict, transform_verdict}
 use Rattle.modular_work.specs.Works.{cleared}
 use Rattle.modular.specs.Outcomes.{transformed, TransformOutcome}

@@ -5,7 +5,8 @@ use Rattle.std.proofs.lemmas.List.Edits.{sets, sets-eq}
 use Rattle.answer.specs.Lists.{at}
 use Rattle.groups.specs.declared.Number.TheVariants.{Value}
 use Rattle.groups.specs.Groups.{number_at, bytes_of}
-use Rattle.groups.specs.Theorems.{bytes_few, read_back, clash, same_bytes}
+use Rattle.groups.specs.Theorems.{bytes_few, read_back, clash}
+use Rattle.groups.proofs.Theorems.{same_bytes}
 use Rattle.writer.specs.declared.Put.TheVariants.{Behind, NoRoom}
 use Rattle.writer.specs.Outcomes.{room, PutOutcome}
 

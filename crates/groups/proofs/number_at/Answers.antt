@@ -32,12 +32,12 @@ returns-then-overlong c =
     let last = read_last l.invariant c.loop-i-test.true (omega arith) (rw w.ensures.0 at c.if-byte-lt128.true) in
     cc (last, w.ensures.0, whole_long _ l.i w.result (l.low + l.unit * w.result) (sym c.overlong.ensures ∙ c.if-overlong.true))
 
-pub returns-then-value-gt4294967295 : goal.returns-then-value-gt4294967295
-returns-then-value-gt4294967295 c =
+pub returns-then-value-gt-LARGEST : goal.returns-then-value-gt-LARGEST
+returns-then-value-gt-LARGEST c =
     let w = c.wide-byte in
     let l = c.loop-i in
     let last = read_last l.invariant c.loop-i-test.true (omega arith) (rw w.ensures.0 at c.if-byte-lt128.true) in
-    cc (last, w.ensures.0, whole_large _ l.i w.result (l.low + l.unit * w.result) (sym c.overlong.ensures ∙ c.if-overlong.false) (omega (arith, c.if-value-gt4294967295.true)))
+    cc (last, w.ensures.0, whole_large _ l.i w.result (l.low + l.unit * w.result) (sym c.overlong.ensures ∙ c.if-overlong.false) (omega (arith, c.if-value-gt-LARGEST.true)))
 
 pub returns-then-byte-lt128 : goal.returns-then-byte-lt128
 returns-then-byte-lt128 c =
@@ -45,7 +45,7 @@ returns-then-byte-lt128 c =
     let l = c.loop-i in
     let last = read_last l.invariant c.loop-i-test.true (omega arith) (rw w.ensures.0 at c.if-byte-lt128.true) in
     rw add-one
-    (cc (last, w.ensures.0, whole-value _ l.i w.result (l.low + l.unit * w.result) (sym c.overlong.ensures ∙ c.if-overlong.false) (omega (arith, c.if-value-gt4294967295.false))))
+    (cc (last, w.ensures.0, whole-value _ l.i w.result (l.low + l.unit * w.result) (sym c.overlong.ensures ∙ c.if-overlong.false) (omega (arith, c.if-value-gt-LARGEST.false))))
 
 pub overflow_mul-low : goal.overflow_mul-low
 overflow_mul-low c =
