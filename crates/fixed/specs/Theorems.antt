@@ -21,8 +21,9 @@ use Rattle.points.specs.Distance.{Near, results_near}
 use Rattle.points.specs.Growth.{results_sized}
 use Rattle.tables.specs.Rules.{rule, Accepted, bad_pair}
 use Rattle.sine.specs.Sine.{sine_table, sine_table-length}
-use Rattle.sine.specs.Filling.{FillOutcome, sine_table-done, filled}
-use Rattle.sine.specs.Beginnings.{beginning_bad, beginning_length}
+use Rattle.sine.specs.Filling.{FillOutcome}
+use Rattle.sine.proofs.Filled.{sine_table-done, filled}
+use Rattle.sine.proofs.Beginnings.{beginning_bad, beginning_length}
 use Rattle.fixed_judgement.specs.Verdicts.{points_log, permitted_length, ranged, bad_sample, scratch_fits, offers, transform_verdict, reverse_verdict}
 use Rattle.fixed_work.specs.Works.{by_schedule}
 use Rattle.fixed.specs.Outcomes.{transformed, TransformOutcome, reversed, ReverseOutcome}

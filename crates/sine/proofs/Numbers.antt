@@ -15,7 +15,8 @@ use Rattle.points.specs.Interleaved.{number, part}
 use Rattle.sine.specs.Constant.{sine}
 use Rattle.rules.specs.Pairs.{Small, re_small, im_small}
 use Rattle.tables.specs.Rules.{accepted_turns}
-use Rattle.sine.specs.Sine.{sine_pair, whole, stride, sine_accepted}
+use Rattle.sine.specs.Sine.{sine_pair, whole, stride}
+use Rattle.sine.proofs.Sine.{sine_accepted}
 
 -- Each is part of a sized pair.
 pub constant_small : (q : ℕ) → q < 4096 → Small (number sine q)

@@ -1,5 +1,4 @@
--- The sine table, the filling of tables from it, and their beginnings.
+-- The sine table, and the filling of tables from it.
 pub mod Constant
 pub mod Sine
 pub mod Filling
-pub mod Beginnings

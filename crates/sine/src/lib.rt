@@ -1,7 +1,6 @@
 // The sine table, and the filling of tables from it.
 #![tactic(auto)]
 
-
 mod constant;
 mod filling;
 

@@ -17,7 +17,8 @@ use Rattle.tables.specs.Rules.{bad_pair}
 use Rattle.tables.specs.Acceptance.{AcceptOutcome, fixed_accept_verdict}
 use Rattle.tables.proofs.Closing.{beginning_fails}
 use Rattle.sine.specs.Constant.{sine}
-use Rattle.sine.specs.Sine.{sine_pair, sine_table, stride, sine_accepted, sine_table-length, sine_table-pair}
+use Rattle.sine.specs.Sine.{sine_pair, sine_table, stride, sine_table-length, sine_table-pair}
+use Rattle.sine.proofs.Sine.{sine_accepted}
 
 -- Up to a quarter turn no real part is negative: T[N'/2] of the table for N is the constant's pair 2^j, j at most 10.
 quarter : first (λ j. non_neg (point sine (2 ^ j)).re) 0 11 ≡ Nowhere
