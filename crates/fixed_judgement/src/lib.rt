@@ -12,6 +12,7 @@ const LEAST: i32 = -32767;
 const MOST: i32 = 32767;
 
 // The n of the N = 2^n points that `len` numbers are, or 0 where no permitted N has so many.
+#[tactic(auto, unfolding(crate::specs::Verdicts::points_log))]
 pub fn points_log(len: usize) -> usize
     ensures { result ≡ points_log len }
 {
@@ -22,6 +23,7 @@ pub fn points_log(len: usize) -> usize
 }
 
 // Whether a sample part lies in the range.
+#[tactic(auto, unfolding(crate::specs::Verdicts::in_range))]
 fn in_range(part: i32) -> bool
     ensures { result ≡ in_range part }
 {
@@ -48,6 +50,7 @@ fn judge_samples(buf: &[i32]) -> Found
 }
 
 // The schedules of the transform.
+#[tactic(auto, unfolding(crate::specs::Verdicts::offers))]
 fn offered(schedule: u32) -> bool
     ensures { result ≡ offers schedule }
 {
@@ -58,6 +61,7 @@ fn offered(schedule: u32) -> bool
 }
 
 // Whether scratch is as long as the data, where it counts for the schedule.
+#[tactic(auto, unfolding(crate::specs::Verdicts::scratch_fits))]
 fn scratch_fits(schedule: u32, scratch: usize, len: usize) -> bool
     ensures { result ≡ scratch_fits schedule scratch len }
 {
@@ -68,6 +72,7 @@ fn scratch_fits(schedule: u32, scratch: usize, len: usize) -> bool
 }
 
 // The transform: 7, 1, 6, 3, 4, 5.
+#[tactic(auto, unfolding(crate::specs::Verdicts::transform_verdict))]
 pub fn judge_transform(schedule: u32, buf: &[i32], table: &[i32], scratch: usize) -> Answer
     ensures { result ≡ transform_verdict schedule buf.now table.now scratch }
 {
