@@ -2,12 +2,15 @@
 // made from its end, so that no digit is counted before it is written.
 #![tactic(auto)]
 
-ghost use Rattle.std.specs.Prelude.{◌≡◌, ◌∷◌, ◌+◌, ◌*◌, ◌≤◌, length, take};
+ghost use Rattle.std.specs.Prelude.{◌≡◌, ◌∷◌, ◌+◌, ◌*◌, ◌≤◌, length, take, drop, OnOk};
+ghost use Rattle.std.specs.Io.KnownBytes.{Appends};
+ghost use Rattle.reading.specs.Requests.{printed};
 ghost use Rattle.line.specs.Lines.{decimal, spaced, line};
 ghost use Rattle.line.specs.Outcomes.{Stands, LineOutcome};
 
 use answer::Answer;
-use libc::STDOUT_FILENO;
+use std::io;
+use std::io::Write;
 
 // Answers the request as `dft` prints it: the line stands at the end of out, from the place that is answered on.
 pub fn respond(input: &[u8], out: &mut [u8; 86058]) -> usize
@@ -19,18 +22,21 @@ pub fn respond(input: &[u8], out: &mut [u8; 86058]) -> usize
     put_line(out, answer, &results, reply.count)
 }
 
-// Writes the answer to the request to standard output, at once.
-pub fn print(input: &[u8]) {
+// Writes the line that answers the request, at once.
+pub fn print<W: Write>(to: &mut W, input: &[u8]) -> io::Result<()>
+    ensures { OnOk result (Appends (W.contents to.old) (W.contents to.new) (line (printed input.now))) }
+{
     let mut out = space();
     let start = respond(input, &mut out);
-    write_from(&out, start);
+    write_from(to, &out, start)
 }
 
 // Writes what stands from a place on.
-pub fn write_from(text: &[u8], start: usize)
+pub fn write_from<W: Write>(to: &mut W, text: &[u8], start: usize) -> io::Result<()>
     requires { start ≤ length text.now }
+    ensures { OnOk result (Appends (W.contents to.old) (W.contents to.new) (drop start text.now)) }
 {
-    io::write_all(STDOUT_FILENO, &text[start..]);
+    to.write_all(&text[start..])
 }
 
 // Zeros, behind a contract that says only how many: memory for a line.

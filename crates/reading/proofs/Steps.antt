@@ -14,7 +14,8 @@ use Rattle.modular_judgement.specs.Verdicts.{offers, permitted_length, transform
 use Rattle.modular.specs.Outcomes.{TransformOutcome}
 use Rattle.reading.specs.declared.Many.TheVariants.{All, Broken}
 use Rattle.reading.specs.Requests.{Printed, many_at, values_at, refused, judged, with_both, with_table, with_head}
-use Rattle.reading.specs.Theorems.{values_whole, both_judged}
+use Rattle.reading.specs.Theorems.{values_whole}
+use Rattle.reading.proofs.Theorems.{both_judged}
 
 abbrev pub answered : Printed → Answer
 answered r = r.answer

@@ -3,13 +3,13 @@
 use Prim.Native.Nat.{ℕ, zero, suc, ◌+◌, ◌*◌, ◌/◌, ◌<◌, ◌≤◌}
 use Rattle.std.specs.Prelude.{◌≡◌, Bool, true, false, cond, take, leb, eqb}
 use Rattle.std.proofs.Math.Path.{refl, ap}
-use Rattle.std.proofs.Common.{sym, ◌∙◌, arith}
+use Rattle.std.proofs.Common.{arith}
 use mathlib.Core.List.{List, [], ◌∷◌}
 use Rattle.std.proofs.Math.ListN.{length}
 use Rattle.std.proofs.Math.Seq.{length-take-le}
-use borrow.Author.Tests.{ltb-true, lt-leb, eq-eqb}
+use borrow.Author.Tests.{ltb-true, lt-leb}
 use Rattle.answer.specs.declared.Answer.{Answer}
-use Rattle.answer.specs.Choice.{refuse_at, done_left}
+use Rattle.answer.specs.Choice.{refuse_at}
 use Rattle.answer.specs.Lists.{at, length-tabulate}
 use Rattle.answer.specs.Lengths.{log_of}
 use Rattle.answer.proofs.Lengths.{permitted_range}
@@ -18,7 +18,7 @@ use Rattle.groups.specs.declared.Number.TheVariants.{Value, Fault}
 use Rattle.groups.specs.Groups.{number_at}
 use Rattle.groups.specs.Theorems.{clash, number_begun}
 use Rattle.groups.proofs.Theorems.{number-near}
-use Rattle.modular_judgement.specs.Verdicts.{offers, permitted_length, through_scratch, scratch_fits, lent_verdict, rest_verdict, transform_verdict}
+use Rattle.modular_judgement.specs.Verdicts.{offers, permitted_length}
 use Rattle.modular_work.specs.Works.{cleared}
 use Rattle.modular.specs.Outcomes.{transformed, TransformOutcome}
 use Rattle.reading.specs.declared.Many.{Many}
@@ -127,44 +127,12 @@ results_few s =
 
 -- ---- a request that is answered 0 is a transform
 
-room_fits : (schedule scratch N : ℕ) → scratch ≡ N → scratch_fits schedule scratch N ≡ true
-unfolding scratch_fits
-room_fits schedule scratch N e = by (through_scratch schedule)
-  where
-    by : (t : Bool) → cond t (eqb scratch N) true ≡ true
-    by true = eq-eqb scratch N e
-    by false = refl
-
--- "Then 2, 4 and 5 follow": of a table and samples of these lengths the transform judges nothing else.
-pub both_judged : (m schedule : ℕ) (table samples : List ℕ) (scratch : ℕ) → offers schedule ≡ true → permitted_length (length samples) ≡ true → length table ≡ length samples / 2 → scratch ≡ length samples →
-    transform_verdict schedule samples m table scratch ≡ judged m table samples
-unfolding transform_verdict rest_verdict lent_verdict judged
-both_judged m schedule table samples scratch offer long half room =
-    simp (offer, long, room_fits schedule scratch (length samples) room, eq-eqb (length table) (length samples / 2) half)
-
 -- Of the modulus, schedule, table and samples that the request asks for the transform answers 0 and leaves the results.
 pub record Transformed (s : List ℕ) (r : Printed) : Type 0 where
   pub p : ℕ
   pub q : ℕ
   pub there : Placed s p q
   pub outcome : TransformOutcome (asked_schedule s) (asked_samples s q) (asked_modulus s) (asked_table s p) (asked_samples s q) r.answer r.results (cleared (asked_schedule s) (asked_samples s q))
-
--- So whatever is proved of transforms holds of it: its results are the Fourier sums of the samples (`transform_sums`).
-pub printed-transformed : (s : List ℕ) → (printed s).answer.number ≡ 0 → Transformed s (printed s)
-printed-transformed s =
-    printed_every (λ r. r.answer.number ≡ 0 → Transformed s r) (λ a l z. absurd (omega arith)) s
-    (λ p q there o l half z.
-    let samples = asked_samples s q in
-    let verdict = both_judged (asked_modulus s) (asked_schedule s) (asked_table s p) samples (length samples) o l half refl in
-    record { p = p; q = q; there = there; outcome = whole (asked_modulus s) (asked_schedule s) (asked_table s p) samples verdict z })
-  where
-    whole : (m schedule : ℕ) (table samples : List ℕ) → transform_verdict schedule samples m table (length samples) ≡ judged m table samples → (judged m table samples).number ≡ 0 →
-        TransformOutcome schedule samples m table samples (judged m table samples) (with_both m schedule table samples).results (cleared schedule samples)
-    whole m schedule table samples e z = record {
-      answers = sym e;
-      leaves = rw e (done_left (judged m table samples) _ [] z ∙ sym (done_left (judged m table samples) _ samples z));
-      clears = rw e (sym (done_left (judged m table samples) _ samples z));
-    }
 
 -- ---- the beginning of an input, k bytes of it
 

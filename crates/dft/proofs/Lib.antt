@@ -1,0 +1,2 @@
+-- Laws that serve the proofs of the program.
+pub mod Input
