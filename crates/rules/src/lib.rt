@@ -8,6 +8,7 @@ ghost use Rattle.rules.specs.Pairs.{starts, sized, near, follows, Small};
 use points::Point;
 
 // Whether it is (16,384, 0).
+#[tactic(auto, unfolding(crate::specs::Pairs::starts))]
 pub fn starts(p: Point) -> bool
     ensures { result ≡ starts p }
 {
@@ -18,6 +19,7 @@ pub fn starts(p: Point) -> bool
 }
 
 // Whether the imaginary part is at least 0 and the sizes of both parts sum to at most 23,171.
+#[tactic(auto, unfolding(crate::specs::Pairs::sized))]
 pub fn sized(p: Point) -> bool
     ensures { result ≡ sized p }
 {

@@ -45,6 +45,7 @@ fn holds(table: &[i32], place: usize) -> bool
 }
 
 // T[i].
+#[tactic(auto, unfolding(crate::specs::Rules::entry))]
 fn entry(table: &[i32], i: usize) -> Point
     ensures { result ≡ entry (length table.now / 2) (point table.now) i }
 {

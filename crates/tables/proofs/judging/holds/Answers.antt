@@ -1,6 +1,7 @@
 -- By the tests, in their order.
-use Rattle.std.proofs.Common.{◌-◌, ◌/◌, ◌<◌, sym, ap, ◌∙◌, length, arith}
+use Rattle.std.proofs.Common.{rules, ◌-◌, ◌/◌, ◌<◌, sym, ap, ◌∙◌, length, arith}
 use Rattle.points.specs.Interleaved.{point}
+use Rattle.points.specs.Steps.{Turn}
 use Rattle.rules.specs.Pairs.{starts, sized, sized-turn}
 use Rattle.tables.specs.Rules.{passed_turn}
 use Rattle.tables.proofs.Rules.{rule_unsized, rule-first, rule_later, second_turn}
@@ -21,7 +22,10 @@ follows-requires c =
     let place = c.args.place in
     let later : 0 < place = omega arith in
     let sizes = sized-turn _ (ap sized (sym c.entry-here.ensures) ∙ sym c.sized.ensures ∙ c.if-not-sized.false) in
-    (rw c.entry-x.ensures (second_turn h t place later c.requires sizes), rw c.entry-before.ensures (passed_turn h t c.requires (place - 1) (omega arith)), rw c.entry-here.ensures sizes)
+    let x : Turn c.entry-x.result = rw c.entry-x.ensures (second_turn h t place later c.requires sizes) in
+    let p : Turn c.entry-before.result = rw c.entry-before.ensures (passed_turn h t c.requires (place - 1) (omega arith)) in
+    let q : Turn c.entry-here.result = rw c.entry-here.ensures sizes in
+    search rules
 
 pub returns : goal.returns
 returns c =
