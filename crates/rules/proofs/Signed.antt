@@ -1,19 +1,48 @@
--- What the widths hold of signed numbers.
-use Prim.Native.Nat.{◌^◌, ◌≤◌}
-use mathlib.Core.Path.{◌≡◌, refl, ap}
+-- Signed numbers as code tests them, and what the widths hold of them.
+use Prim.Native.Nat.{ℕ, suc, ◌-◌, ◌^◌, ◌<◌, ◌≤◌}
+use mathlib.Core.Path.{◌≡◌, refl, sym, ap}
+use mathlib.Core.Bool.{true, false, false≢true}
 use mathlib.Core.List.{[], ◌∷◌}
-use native.Mathlib.Nat.{mul-le-mul}
+use native.Mathlib.Nat.{mul-le-mul, not-suc-le-zero}
 use native.Mathlib.Omega.{arith}
-use lib.IntN.{ℤ, pos, nat_abs, ◌+ℤ◌, ◌-ℤ◌, ◌*ℤ◌}
+use lib.Dec.{leb, eqb}
+use lib.IntN.{ℤ, pos, negsuc, nat_abs, ◌+ℤ◌, ◌-ℤ◌, ◌*ℤ◌, +ℤ_idl}
+use lib.Signed.{le_z, lt_z, non_neg}
 use mir.Syntax.{w32, w64}
 use mir.Val.{SFits, of_z, to_z}
 use mir.ValLaws.{to_z-of_z}
+use borrow.Author.Tests.{ltb-true, ltb-false, le-leb, lt-leb, ne_eqb}
 use Rattle.algebra.specs.Integers.{integers, nat_abs-add, nat_abs-sub, nat_abs_mul}
 use Rattle.algebra.specs.Solver.{v, :0, ◌:+◌, ◌:-◌, ◌:*◌, ring}
 use Rattle.points.proofs.Fits.{fits}
+use Rattle.rules.specs.Pairs.{is, Small, near, re_small, im_small}
 use Rattle.points.specs.declared.Point.{Point}
 use Rattle.points.specs.Steps.{Turn}
-use Rattle.rules.specs.Pairs.{near, Small, re_small, im_small}
+
+-- ---- tests
+
+-- A test of the size n + 1 by its two ends.
+pub below_size : (n : ℕ) (z : ℤ) → lt_z z (negsuc n) ≡ true → leb (nat_abs z) (suc n) ≡ false
+below_size n (pos a) e = absurd (false≢true e)
+below_size n (negsuc a) e = lt-leb (suc a) (suc n) (omega (arith, ltb-true n a e))
+
+pub above_size : (n : ℕ) (z : ℤ) → lt_z z (negsuc n) ≡ false → le_z z (pos (suc n)) ≡ leb (nat_abs z) (suc n)
+above_size n (pos a) e = refl
+above_size n (negsuc a) e = sym (le-leb (suc a) (suc n) (omega (arith, ltb-false n a e)))
+
+-- The sign by the test against 0.
+pub negative : (z : ℤ) → lt_z z (pos 0) ≡ true → (non_neg z ≡ false) × (pos 0 -ℤ z ≡ pos (nat_abs z))
+negative (pos a) e = absurd (not-suc-le-zero (ltb-true a 0 e))
+negative (negsuc a) e = (refl, +ℤ_idl (pos (suc a)))
+
+pub not_negative : (z : ℤ) → lt_z z (pos 0) ≡ false → (non_neg z ≡ true) × (z ≡ pos (nat_abs z))
+not_negative (pos a) e = (refl, refl)
+not_negative (negsuc a) e = absurd (false≢true (sym e))
+
+-- The bits of n are those of no other number.
+pub is_bits : (z : ℤ) (n : ℕ) → SFits w32 z → n < 2147483648 → eqb (of_z w32 z) n ≡ is z n
+is_bits (pos a) n f h = refl
+is_bits (negsuc a) n f h = ne_eqb (4294967296 - suc a) n (λ e. let g : a < 2147483648 = f.sfits in omega arith)
 
 -- ---- widths
 
