@@ -1,4 +1,4 @@
--- The search for the first bad place, and what its answer says.
+-- The search for the first bad place. What its answer says stands in proofs/.
 use Prim.Native.Nat.{ℕ, zero, suc, ◌+◌, ◌<◌}
 use Rattle.std.specs.Prelude.{◌≡◌, Bool, cond}
 use Rattle.std.proofs.Math.Bool.{true, false}

@@ -1,4 +1,4 @@
--- Laws of what specs/ defines, and of loops.
+-- Theorems that an edit of a definition has to break.
 pub mod Sentences
 pub mod Embeddings
 pub mod Halves

@@ -1,4 +1,5 @@
--- Schedules 1, 2, 4 and 5 embed Dijkstra's array: by columns, by rows, and in reversed order.
+-- The places at which schedules 1, 2, 4 and 5 hold Dijkstra's array: by columns, by rows, and in reversed order. That they hold it there
+-- stands in proofs/.
 use Rattle.std.specs.Prelude.{◌≤◌, ℕ, ◌+◌, ◌-◌, ◌*◌, ◌^◌, ◌<◌, ◌≡◌}
 use Rattle.std.proofs.Common.{sym, ap, ◌∙◌, mul_comm, arith, pow-add}
 use Rattle.std.proofs.Math.Arith.{digits_lt}

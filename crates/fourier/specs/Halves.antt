@@ -1,4 +1,5 @@
--- Schedule 3: its sentence, half by half, and that it leaves at every place what schedule 1 leaves.
+-- Schedule 3: exponents that count c times, and parts of a buffer. Its sentence, half by half, and that it leaves at every place what
+-- schedule 1 leaves, stand in proofs/.
 use Prim.Native.Nat.{ℕ, ◌+◌, ◌*◌, ◌%◌, ◌^◌}
 use Rattle.std.specs.Prelude.{◌≡◌}
 use Rattle.std.proofs.Common.{one-mul}
@@ -21,9 +22,7 @@ module _ {C : Type 0} (w : Wing C) where
   unfolding butterfly
   strided-step c h d p = rw (one-mul (p % h))
 
--- ---- "The first stage of schedule 1, then the same on each half of the buffer, .. its exponents count double in the lent table."
-
--- ---- schedule 3 does to each part of the buffer what schedule 1 does there
+-- ---- parts
 
 -- d is the k-th part of 2^r places of e.
 pub record Part {C : Type 0} (k r : ℕ) (d e : Buffer C) : Type 0 where

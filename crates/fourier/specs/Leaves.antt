@@ -1,5 +1,5 @@
--- What the five schedules leave, said once: the last row of Dijkstra's array. So they agree, over every carrier, and what two steps
--- keep between two carriers holds between the two results.
+-- What a schedule leaves, said once: the last row of Dijkstra's array; that the five schedules leave it stands in proofs/. So they
+-- agree, over every carrier, and what two steps keep between two carriers holds between the two results.
 use Prim.Native.Nat.{ℕ, zero, suc, ◌+◌, ◌-◌, ◌/◌, ◌%◌, ◌^◌, ◌<◌, ◌≤◌}
 use Rattle.std.specs.Prelude.{◌≡◌}
 use Rattle.std.proofs.Common.{sym, ◌∙◌, ap₂, le_refl, mul-lt-mul_of_pos_right, arith, pow_pos}

@@ -1,4 +1,4 @@
--- The schedules on numbers below m with a table, and the sums and the inverse in plain numbers.
+-- The steps on numbers below m with a table, and the sums and the inverse in plain numbers. Their theorems stand in proofs/.
 use Rattle.std.specs.Prelude.{ℕ, ◌+◌, ◌-◌, ◌*◌, ◌/◌, ◌%◌, ◌^◌, ◌<◌, ◌≡◌}
 use Rattle.std.proofs.Math.Path.{ap}
 use Rattle.algebra.specs.Sum.{total, total_cong}

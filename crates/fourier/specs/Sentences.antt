@@ -1,4 +1,5 @@
--- Document 01's sentences about the stages, pair by pair; that the stages of Schedules are as they say, and that only they are.
+-- Document 01's sentences about the stages, pair by pair, and the pairs of a stage in place. That the stages of Schedules are as the
+-- sentences say, and that only they are, stands in proofs/.
 use Rattle.std.specs.Prelude.{ℕ, zero, suc, ◌+◌, ◌-◌, ◌*◌, ◌/◌, ◌%◌, ◌^◌, ◌<◌, ◌≡◌, refl, ◌⊎◌}
 use Rattle.std.proofs.Common.{sym, ap, ◌∙◌, inl, inr, div-add-mod', arith}
 use Rattle.std.proofs.Math.Nat.{mul-add-mod_self_right, mul-add-div_right}
@@ -62,7 +63,7 @@ butterfly-pair stride h j i x hi hx =
     let half : (j + j + x) / 2 ≡ j = omega arith in
     rw (place, digits_div, digits_mod, bit, half)
 
--- ---- the stages are as they say
+-- ---- the pairs of a stage in place
 
 pub butterfly_receive : (stride h j i : ℕ) → i < h → Receive (butterfly stride h) (j * (h + h) + i) (j * (h + h) + i + h) (stride * i) (j * (h + h) + i) (j * (h + h) + i + h)
 butterfly_receive stride h j i hi =
@@ -73,7 +74,7 @@ butterfly_receive stride h j i hi =
       difference = ap (butterfly stride h) high ∙ butterfly-pair stride h j i 1 hi (omega arith);
     }
 
--- ---- and only they are, since the pairs cover each place
+-- ---- a place is one of the two of its pair
 
 pub bit_either : (x : ℕ) → x < 2 → (x ≡ 0) ⊎ (x ≡ 1)
 bit_either zero h = inl refl

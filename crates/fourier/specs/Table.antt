@@ -1,4 +1,4 @@
--- The rules of a table modulo m, place by place, and that an accepted table is the powers of a root with x^(N/2) = -1.
+-- The rules of a table modulo m, place by place. That an accepted table is the powers of a root with x^(N/2) = -1 stands in proofs/.
 use Prim.Native.Nat.{ℕ, zero, suc, ◌+◌, ◌-◌, ◌*◌, ◌%◌, ◌<◌}
 use Rattle.std.specs.Prelude.{Bool, cond, ◌&&◌, ltb, eqb}
 use Rattle.std.proofs.Common.{mod-lt, lt-ltb, le-ltb}

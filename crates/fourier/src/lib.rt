@@ -1,2 +1,2 @@
-// This crate has no code: the schedules and the theorems about them stand in specs/.
+// This crate has no code: the schedules stand in specs/, the theorems about them there and in proofs/.
 #![tactic(auto)]

@@ -13,7 +13,7 @@ pub column_stage-requires : goal.column_stage-requires
 column_stage-requires c =
     let s = c in
     let g = c.loop-s.invariant.1 in
-    record { judged = g.judged; s_lt_n = (c.loop-s-test.true, g.ran.held.long ∙ s.requires.le_n.1, s.requires.le_n.2) }
+    record { judged = g.judged; s_lt_n = (omega arith, g.ran.held.long ∙ s.requires.le_n.1, s.requires.le_n.2) }
 
 pub loop-s-preserved : goal.loop-s-preserved
 loop-s-preserved c =
