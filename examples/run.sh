@@ -1,7 +1,7 @@
 #!/bin/sh
 # Builds dft, runs it on document 01's example and on a scan of 4,096 points.
 cd "$(dirname "$0")/.." || exit 2
-echo 'proving and building dft; the first time this takes a minute or two'
+echo 'proving and building dft; the first time this takes some minutes'
 . examples/kit.sh
 program dft
 dft() {

@@ -1,5 +1,5 @@
 -- Schedule 3 on a list: the sizes of its halves, what each half is when it is lent on, and the list when it has come back.
-use Prim.Native.Nat.{ℕ, zero, suc, ◌+◌, ◌*◌, ◌/◌, ◌^◌, ◌<◌, ◌≤◌}
+use Prim.Native.Nat.{ℕ, zero, suc, ◌+◌, ◌-◌, ◌*◌, ◌/◌, ◌^◌, ◌<◌, ◌≤◌}
 use mathlib.Core.Path.{◌≡◌, refl, sym, ap, ◌∙◌}
 use mathlib.Core.List.{List}
 use native.Mathlib.Nat.{two-pow-succ, mul-le-mul_left}
@@ -82,6 +82,14 @@ module _ {C : Type 0} {z : C} {w : Wing C} {c h : ℕ} {d : Buffer C} where
                 ∙ sym (halves_half w c n d j p (omega arith)) ∙ rw (start, e);
           }));
     }
+
+-- The first half has come back.
+pub halfway_half : {C : Type 0} {z : C} {w : Wing C} {c h N T : ℕ} {d : Buffer C} {l part : List C} → Halfway z w c h d 0 l → Halved N T c h →
+    ((n : ℕ) → length (mid_of 0 h l) ≡ 2 ^ n → part ≡ tabulate (length (mid_of 0 h l)) (halves (strided (c + c) w) n (λ p. get_or (mid_of 0 h l) p z))) →
+    Halfway z w c h d h (put_mid 0 h l part) × (length (put_mid 0 h l part) - h ≡ h)
+halfway_half {h = h} begun sizes ensured =
+    let middle = halfway_next begun h refl (omega arith) 0 h (omega arith) (omega arith) ensured in
+    (middle, omega (arith, halfway_long middle sizes))
 
 -- Both halves have come back.
 pub halfway_all : {C : Type 0} {z : C} {w : Wing C} {c h N : ℕ} {d : Buffer C} {l : List C} → Halfway z w c h d (h + h) l → N ≡ h + h → 0 < h → (n : ℕ) → N ≡ 2 ^ n → l ≡ tabulate N (halves (strided c w) n d)

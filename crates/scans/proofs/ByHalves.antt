@@ -1,5 +1,5 @@
 -- Schedule 3 on a buffer of points: what each half is when it is lent on, and the buffer when it has come back.
-use Prim.Native.Nat.{ℕ, zero, suc, ◌+◌, ◌*◌, ◌/◌, ◌^◌, ◌<◌, ◌≤◌}
+use Prim.Native.Nat.{ℕ, zero, suc, ◌+◌, ◌*◌, ◌/◌, ◌^◌, ◌<◌, ◌≤◌, ◌-◌}
 use mathlib.Core.Path.{◌≡◌, refl, sym, ◌∙◌}
 use mathlib.Core.Logic.{⊎_elim}
 use mathlib.Core.List.{List}
@@ -93,6 +93,14 @@ module _ {c h o : ℕ} {t l₀ l : List ℤ} (r : Reached c t l₀ h o l) (k : S
       })
 
 -- Both halves have come back.
+-- The first half has come back.
+pub reached_half : {c h : ℕ} {t l₀ l part : List ℤ} → Reached c t l₀ h 0 l → (k : Sizes c t l₀ h) →
+    ((n : ℕ) → length (mid_of 0 (length l₀ / 2) l) ≡ 2 ^ n + 2 ^ n → part ≡ interleaved (2 ^ n) (halves (strided (c + c) (rounded half_up (point t))) n (point (mid_of 0 (length l₀ / 2) l)))) →
+    Reached c t l₀ h h (put_mid 0 (length l₀ / 2) l part) × (length (put_mid 0 (length l₀ / 2) l part) - length l₀ / 2 ≡ h + h)
+reached_half {l₀ = l₀} begun k ensured =
+    let middle = reached_next begun k 0 (length l₀ / 2) (omega arith) (omega arith) k.whole 0 _ (omega arith) (omega arith) ensured in
+    (middle, omega (arith, k.whole, middle.whole.long))
+
 pub reached_all : {c h : ℕ} {t l₀ l : List ℤ} → Reached c t l₀ h (h + h) l → Sizes c t l₀ h → (n : ℕ) → length l₀ ≡ 2 ^ n + 2 ^ n → l ≡ interleaved (2 ^ n) (halves (strided c (rounded half_up (point t))) n (point l₀))
 reached_all {h = h} {l₀ = l₀} {l = l} r k n e =
     let whole : length l₀ / 2 ≡ h + h = k.whole in

@@ -4,16 +4,16 @@ use Rattle.fourier.specs.Table.{back, lookup-below}
 use Rattle.butterflies.proofs.pair.Goals as goal
 
 pub in_frequency-requires : goal.in_frequency-requires
-in_frequency-requires c = let s = c in record { permitted = s.requires.permitted; a_lt_value = (s.requires.a_lt_value.0, s.requires.a_lt_value.1, rw c.lookup-t.ensures (lookup-below _ _ _ (omega arith) (λ i _. s.requires.below.0.each i) _)) }
+in_frequency-requires c = record { permitted = c.requires.permitted; a_lt_value = (c.requires.a_lt_value.0, c.requires.a_lt_value.1, rw c.lookup-t.ensures (lookup-below _ _ _ (omega arith) (λ i _. c.requires.below.0.each i) _)) }
 
 pub in_time-requires : goal.in_time-requires
-in_time-requires c = let s = c in record { permitted = s.requires.permitted; a_lt_value = (s.requires.a_lt_value.0, s.requires.a_lt_value.1, rw c.lookup-t-in-Time.ensures (lookup-below _ _ _ (omega arith) (λ i _. s.requires.below.0.each i) _)) }
+in_time-requires c = record { permitted = c.requires.permitted; a_lt_value = (c.requires.a_lt_value.0, c.requires.a_lt_value.1, rw c.lookup-t-in-Time.ensures (lookup-below _ _ _ (omega arith) (λ i _. c.requires.below.0.each i) _)) }
 
 pub lookup-t-requires-in-Back : goal.lookup-t-requires-in-Back
-lookup-t-requires-in-Back c = let s = c in record { permitted = s.requires.permitted; below = s.requires.below.0; e_in_bounds = rw c.opposite-back.ensures (mod-lt _ (omega arith)) }
+lookup-t-requires-in-Back c = record { permitted = c.requires.permitted; below = c.requires.below.0; e_in_bounds = rw c.opposite-back.ensures (mod-lt _ (omega arith)) }
 
 pub in_time-requires-in-Back : goal.in_time-requires-in-Back
-in_time-requires-in-Back c = let s = c in record { permitted = s.requires.permitted; a_lt_value = (s.requires.a_lt_value.0, s.requires.a_lt_value.1, rw c.lookup-t-in-Back.ensures (lookup-below _ _ _ (omega arith) (λ i _. s.requires.below.0.each i) _)) }
+in_time-requires-in-Back c = record { permitted = c.requires.permitted; a_lt_value = (c.requires.a_lt_value.0, c.requires.a_lt_value.1, rw c.lookup-t-in-Back.ensures (lookup-below _ _ _ (omega arith) (λ i _. c.requires.below.0.each i) _)) }
 
 pub returns-in-Frequency : goal.returns-in-Frequency
 returns-in-Frequency c = rw (c.in-Frequency.is, ← c.lookup-t.ensures) c.in_frequency.ensures

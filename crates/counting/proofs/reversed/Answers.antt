@@ -14,10 +14,9 @@ loop-left-init c =
 
 pub overflow_add-result : goal.overflow_add-result
 overflow_add-result c =
-    let s = c in
     let sum = counts_zero c.loop-left.left c.loop-left.invariant c.loop-left-test.true c.if-high-eq0.true in
-    let low = reversed-below s.args.n s.args.s s.requires.s_lt_n.0 (s.args.k + 1) in
-    let small = half_small s.args.n (omega arith) in
+    let low = reversed-below c.args.n c.args.s c.requires.s_lt_n.0 (c.args.k + 1) in
+    let small = half_small c.args.n (omega arith) in
     record { fits = omega arith }
 
 pub returns-then-high-eq0 : goal.returns-then-high-eq0

@@ -9,6 +9,4 @@ pub overflow_mul-result : goal.overflow_mul-result
 overflow_mul-result c = record { fits = product_fits (omega arith) (omega arith) }
 
 pub overflow_cast-result-4 : goal.overflow_cast-result-4
-overflow_cast-result-4 c =
-    let s = c in
-    record { fits = omega (arith, mod-lt (s.args.a * s.args.b) {m = s.args.m.value} (omega arith)) }
+overflow_cast-result-4 c = record { fits = omega (arith, mod-lt (c.args.a * c.args.b) {m = c.args.m.value} (omega arith)) }

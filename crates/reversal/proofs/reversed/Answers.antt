@@ -1,4 +1,3 @@
-use Prim.Native.Nat.{◌<◌}
 use mathlib.Core.Path.{◌∙◌}
 use native.Mathlib.Omega.{arith}
 use Rattle.reversal.proofs.Bits.{bit_next, bits_all, turned-below}
@@ -8,14 +7,10 @@ pub loop-left-init : goal.loop-left-init
 loop-left-init c = omega arith
 
 pub overflow_add-result : goal.overflow_add-result
-overflow_add-result c =
-    let few : c.loop-left.result < 4096 = let s = c.args in let l = c.loop-left in turned-below s.n s.j l.result l.rest l.left c.requires l.invariant in
-    record { fits = omega (arith, few) }
+overflow_add-result c = let l = c.loop-left in record { fits = omega (arith, turned-below c.args.n c.args.j l.result l.rest l.left c.requires l.invariant) }
 
 pub overflow_add-result-in-loop-left : goal.overflow_add-result-in-loop-left
-overflow_add-result-in-loop-left c =
-    let few : c.loop-left.result < 4096 = let s = c.args in let l = c.loop-left in turned-below s.n s.j l.result l.rest l.left c.requires l.invariant in
-    record { fits = omega (arith, few) }
+overflow_add-result-in-loop-left c = let l = c.loop-left in record { fits = omega (arith, turned-below c.args.n c.args.j l.result l.rest l.left c.requires l.invariant) }
 
 pub loop-left-preserved : goal.loop-left-preserved
 loop-left-preserved c = let l = c.loop-left in l.invariant ∙ bit_next l.result l.rest l.left (omega arith)

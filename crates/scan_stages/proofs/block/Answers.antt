@@ -17,33 +17,24 @@ loop-i-init c =
 
 pub pair-parts-requires : goal.pair-parts-requires
 pair-parts-requires c =
-    let i = c in
-    let l = i.loop-i in
-    let s = i in
-    let k = exponent_below s.requires.le_stride.0 i.loop-i-test.true s.requires.le_stride.1 in
-    let same = pair_left l.invariant.2 l.invariant.3 i.loop-i-test.true in
-    record { turns = s.requires.scanned.turns; e_in_bounds = omega arith; sized = (rw (c.point_at-a.ensures, same.low) (s.requires.scanned.each l.i), rw (c.point_at-b.ensures, same.high) (s.requires.scanned.each (l.i + s.args.h))) }
+    let l = c.loop-i in
+    let k = exponent_below c.requires.le_stride.0 c.loop-i-test.true c.requires.le_stride.1 in
+    let same = pair_left l.invariant.2 l.invariant.3 c.loop-i-test.true in
+    record { turns = c.requires.scanned.turns; e_in_bounds = omega arith; sized = (rw (c.point_at-a.ensures, same.low) (c.requires.scanned.each l.i), rw (c.point_at-b.ensures, same.high) (c.requires.scanned.each (l.i + c.args.h))) }
 
 pub overflow_add-e : goal.overflow_add-e
-overflow_add-e c =
-    let i = c in
-    let s = i in
-    record { fits = omega (arith, mul-le-mul_left s.args.stride i.loop-i-test.true, s.requires.le_stride.1, i.loop-i.invariant.1) }
+overflow_add-e c = record { fits = omega (arith, mul-le-mul_left c.args.stride c.loop-i-test.true, c.requires.le_stride.1, c.loop-i.invariant.1) }
 
 pub loop-i-preserved : goal.loop-i-preserved
 loop-i-preserved c =
-    let b = c in
-    let a = b in
-    let p = a in
-    let i = p in
-    let l = i.loop-i in
-    let s = i.args in
-    let low = p.point_at-a.ensures in
-    let high = p.point_at-b.ensures in (
+    let l = c.loop-i in
+    let s = c.args in
+    let low = c.point_at-a.ensures in
+    let high = c.point_at-b.ensures in (
       omega arith,
       omega (arith, l.invariant.1),
-      put_whole l.i (l.i + s.h) _ _ l.invariant.2 a.put_point.ensures b.put_point-in-loop-i.ensures,
-      block_put (rounded half_up (point s.table.now)) s.stride s.h l.invariant.2 l.invariant.3 i.loop-i-test.true l.invariant.1 (rw (low, high) at p.pair-parts.ensures.0) (rw (low, high) at p.pair-parts.ensures.1) a.put_point.ensures b.put_point-in-loop-i.ensures,
+      put_whole l.i (l.i + s.h) _ _ l.invariant.2 c.put_point.ensures c.put_point-in-loop-i.ensures,
+      block_put (rounded half_up (point s.table.now)) s.stride s.h l.invariant.2 l.invariant.3 c.loop-i-test.true l.invariant.1 (rw (low, high) at c.pair-parts.ensures.0) (rw (low, high) at c.pair-parts.ensures.1) c.put_point.ensures c.put_point-in-loop-i.ensures,
     )
 
 pub returns : goal.returns

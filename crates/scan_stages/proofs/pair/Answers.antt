@@ -3,7 +3,7 @@ use native.Mathlib.Omega.{arith}
 use Rattle.scan_stages.proofs.pair.Goals as goal
 
 pub pair-requires : goal.pair-requires
-pair-requires c = let s = c in record { turn = rw c.point_at-t.ensures (s.requires.turns.each s.args.e (omega arith)); sized = s.requires.sized }
+pair-requires c = record { turn = rw c.point_at-t.ensures (c.requires.turns.each c.args.e (omega arith)); sized = c.requires.sized }
 
 pub returns : goal.returns
 returns c = rw c.point_at-t.ensures at c.pair.ensures

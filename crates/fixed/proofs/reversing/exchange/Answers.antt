@@ -16,10 +16,7 @@ pub swap-requires : goal.swap-requires
 swap-requires c =
     let inside : c.loop-i.i < 2 ^ c.args.n = omega (arith, c.loop-i.invariant.1.long) in
     let partner : c.reversed-j.result < 2 ^ c.args.n = omega (arith, c.reversed-j.ensures, rev_lt c.args.n c.loop-i.i) in
-    let r = c in
-    let long = r.loop-i.invariant.1.long in
-    let i = inside in
-    let j = partner in
+    let long = c.loop-i.invariant.1.long in
     (omega arith, omega arith)
 
 pub loop-i-smaller : goal.loop-i-smaller
@@ -32,7 +29,6 @@ loop-i-preserved c =
     let inside : c.loop-i.i < 2 ^ c.args.n = omega (arith, c.loop-i.invariant.1.long) in
     let l = c.loop-i in
     let s = c.args in
-    let k = inside in
     let j = c.reversed-j.result in
     let partners = rev_partners s.n refl in (
       omega arith,
@@ -41,8 +37,8 @@ loop-i-preserved c =
         | else-i-j w ↦ rw w.buf-is l.invariant.1
       ],
       elim c.if-i-j.branch [
-        | then-i-j w ↦ rw w.buf-is (swapped l.i j l.invariant.1 w.swap.ensures l.invariant.2 partners k c.reversed-j.ensures w.if-i-j.true)
-        | else-i-j w ↦ rw w.buf-is (exchanged_stay l.invariant.2 partners k (omega (arith, c.reversed-j.ensures)))
+        | then-i-j w ↦ rw w.buf-is (swapped l.i j l.invariant.1 w.swap.ensures l.invariant.2 partners inside c.reversed-j.ensures w.if-i-j.true)
+        | else-i-j w ↦ rw w.buf-is (exchanged_stay l.invariant.2 partners inside (omega (arith, c.reversed-j.ensures)))
       ],
     )
 

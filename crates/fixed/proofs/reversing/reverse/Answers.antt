@@ -24,7 +24,5 @@ pub returns : goal.returns
 unfolding reverse_verdict
 returns c =
     let permitted : permitted_length (length c.args.buf.now) ≡ true = long _ c.points_log-n.ensures c.if-n-eq0.false in
-    let w = c in
-    let i = w in
-    let n = i.points_log-n.ensures in
-    record { answers = rw (permitted); leaves = rw (permitted) (rw n at w.exchange.ensures) }
+    let n = c.points_log-n.ensures in
+    record { answers = rw (permitted); leaves = rw (permitted) (rw n at c.exchange.ensures) }

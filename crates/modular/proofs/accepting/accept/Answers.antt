@@ -25,8 +25,8 @@ judge_table-entry-requires c =
     let modulus : permits c.args.m ≡ true = passed c.permitted.ensures c.if-not-permitted.false in
     let size : (let t = c.args.table.now in ltb 0 (table_log (length t)) ≡ true) = long _ c.table_log.ensures c.if-table_log-eq0.false in
     let t = c.args.table.now in
-    let half = long_half (length t + length t) (size) in
-    record { permitted = permits_permitted _ (modulus); in_bounds = omega arith }
+    let half = long_half (length t + length t) size in
+    record { permitted = permits_permitted _ modulus; in_bounds = omega arith }
 
 pub returns-in-At : goal.returns-in-At
 unfolding accept_verdict

@@ -7,15 +7,12 @@ returns-then-verdict-ne0 c = let e = c.judge_inverse-verdict.ensures in record {
 
 pub invert-requires : goal.invert-requires
 invert-requires c =
-    let i = c in
-    let r = inverse_ready _ _ _ (rw i.judge_inverse-verdict.ensures at i.if-verdict-ne0.false) in
+    let r = inverse_ready _ _ _ (rw c.judge_inverse-verdict.ensures at c.if-verdict-ne0.false) in
     let n = c.log_of-n.ensures in
     record { judged = r.judged; le_n = (rw n r.some, rw n r.whole, rw n r.half) }
 
 pub returns : goal.returns
 returns c =
-    let w = c in
-    let n = w.log_of-n.ensures in
-    let i = w in
-    let e = i.judge_inverse-verdict.ensures in
-    record { answers = e; leaves = worked e i.if-verdict-ne0.false _ _ (rw n at w.invert.ensures) }
+    let n = c.log_of-n.ensures in
+    let e = c.judge_inverse-verdict.ensures in
+    record { answers = e; leaves = worked e c.if-verdict-ne0.false _ _ (rw n at c.invert.ensures) }

@@ -23,8 +23,6 @@ reverse-requires c =
 pub returns : goal.returns
 unfolding reverse_verdict
 returns c =
-    let w = c in
-    let i = w in
-    let n = i.log_of-n.ensures in
-    let e : done ≡ reverse_verdict i.args.buf.now = rw (long _ n i.if-n-eq0.false) in
-    record { answers = e; leaves = worked e refl _ _ (rw n at w.reverse.ensures) }
+    let n = c.log_of-n.ensures in
+    let e : done ≡ reverse_verdict c.args.buf.now = rw (long _ n c.if-n-eq0.false) in
+    record { answers = e; leaves = worked e refl _ _ (rw n at c.reverse.ensures) }

@@ -7,20 +7,17 @@ use Rattle.runs.proofs.Stages.{fits, butterfly_next}
 use Rattle.runs.proofs.columns.by_columns.Goals as goal
 
 pub loop-s-init : goal.loop-s-init
-loop-s-init c = let s = c in (omega arith, going_none s.requires.judged)
+loop-s-init c = (omega arith, going_none c.requires.judged)
 
 pub column_stage-requires : goal.column_stage-requires
 column_stage-requires c =
-    let s = c in
     let g = c.loop-s.invariant.1 in
-    record { judged = g.judged; s_lt_n = (omega arith, g.ran.held.long ∙ s.requires.le_n.1, s.requires.le_n.2) }
+    record { judged = g.judged; s_lt_n = (omega arith, g.ran.held.long ∙ c.requires.le_n.1, c.requires.le_n.2) }
 
 pub loop-s-preserved : goal.loop-s-preserved
 loop-s-preserved c =
-    let i = c in
-    let s = i in
-    let l = i.loop-s in
-    let k = fits l.s (s.args.n - suc l.s) (omega arith) s.requires.le_n.1 s.requires.le_n.2 in
+    let l = c.loop-s in
+    let k = fits l.s (c.args.n - suc l.s) (omega arith) c.requires.le_n.1 c.requires.le_n.2 in
     (omega arith, butterfly_next l.invariant.1 k refl c.column_stage.ensures)
 
 pub returns : goal.returns

@@ -1,14 +1,13 @@
 -- Schedule 3 is its first stage, and then itself on either half.
-use Prim.Native.Nat.{ℕ, ◌+◌, ◌-◌, ◌/◌}
-use mathlib.Core.Path.{◌≡◌, refl, ◌∙◌}
-use mathlib.Core.List.{List, ◌++◌}
+use Prim.Native.Nat.{ℕ, ◌+◌, ◌/◌}
+use mathlib.Core.Path.{refl, ◌∙◌}
 use native.Mathlib.Omega.{arith}
-use lib.ListN.{length, drop}
+use lib.ListN.{length}
 use Rattle.answer.specs.Lists.{at}
 use Rattle.fourier.specs.Schedules.{Wing}
 use Rattle.fourier.specs.Numbers.{frequency_mod}
 use Rattle.butterflies.specs.declared.Way.TheVariants.{Frequency}
-use Rattle.runs.proofs.ByHalves.{halved, Halfway, halfway_none, halfway_long, halfway_next, halfway_two, halfway_all, half_asked, halves-one}
+use Rattle.runs.proofs.ByHalves.{halved, Halfway, halfway_none, halfway_half, halfway_next, halfway_two, halfway_all, half_asked, halves-one}
 use Rattle.runs.proofs.halves.+by_halves.Goals as goal
 
 pub first_stage-requires-clause-buf_len : goal.first_stage-requires-clause-buf_len
@@ -35,10 +34,8 @@ by_halves-requires-then-h-gt1 t c =
     let k = halved c.requires.by_index c.requires.le_stride.1 c.if-h-gt0.true in
     let w : Wing ℕ = frequency_mod a.m.value (length a.table.now) (at a.table.now) in
     let begun : Halfway 0 w a.stride h (at a.buf.now) 0 c.first_stage.new.buf = halfway_none c.first_stage.ensures in
-    let back : List ℕ = c.by_halves.new.buf ++ drop h c.first_stage.new.buf in
-    let middle : Halfway 0 w a.stride h (at a.buf.now) h back = halfway_next begun _ refl (omega arith) 0 _ (omega arith) (omega arith) c.by_halves.ensures in
-    let rest : length back - h ≡ h = omega (arith, halfway_long middle k) in
-    let asked = half_asked Frequency {m = a.m.value} {t = a.table.now} c.requires.judged k middle (length back - h) rest (omega arith) in
+    let middle = halfway_half begun k c.by_halves.ensures in
+    let asked = half_asked Frequency {m = a.m.value} {t = a.table.now} c.requires.judged k middle.0 _ middle.1 (omega (arith, middle.1)) in
     (omega (arith, c.decreases, asked.long), (asked.judged, ((k.log, asked.long ∙ k.power), (omega arith, omega (arith, asked.double)))))
 
 -- Behind the second.
@@ -49,10 +46,8 @@ returns-then-h-gt1 t c =
     let k = halved c.requires.by_index c.requires.le_stride.1 c.if-h-gt0.true in
     let w : Wing ℕ = frequency_mod a.m.value (length a.table.now) (at a.table.now) in
     let begun : Halfway 0 w a.stride h (at a.buf.now) 0 c.first_stage.new.buf = halfway_none c.first_stage.ensures in
-    let back : List ℕ = c.by_halves.new.buf ++ drop h c.first_stage.new.buf in
-    let middle : Halfway 0 w a.stride h (at a.buf.now) h back = halfway_next begun _ refl (omega arith) 0 _ (omega arith) (omega arith) c.by_halves.ensures in
-    let rest : length back - h ≡ h = omega (arith, halfway_long middle k) in
-    let ended = halfway_next middle (length back - h) rest (omega arith) 1 (h + h) (omega arith) (omega arith) c.by_halves-then-h-gt1.ensures in
+    let middle = halfway_half begun k c.by_halves.ensures in
+    let ended = halfway_next middle.0 _ middle.1 (omega (arith, middle.1)) 1 (h + h) (omega arith) (omega (arith, middle.1)) c.by_halves-then-h-gt1.ensures in
     halfway_all ended k.whole c.if-h-gt0.true
 
 -- Two places: nothing is left to do.

@@ -24,12 +24,8 @@ inverted m n t l₀ {l₁} {l₂} ex et e₁ e₂ =
 
 pub scale-requires : goal.scale-requires
 scale-requires c =
-    let s = c in
-    let ran = run-judged Back {m = s.args.m.value} {t = s.args.table.now} (thong s.args.n) s.args.n (length s.args.buf.now) (at s.args.buf.now) s.requires.judged s.requires.le_n.0 c.by_thong.ensures in
-    record { permitted = s.requires.judged.modulus; below = (ran.values, rw c.factor-by.ensures (mod-lt _ (omega arith))) }
+    let ran = run-judged Back {m = c.args.m.value} {t = c.args.table.now} (thong c.args.n) c.args.n (length c.args.buf.now) (at c.args.buf.now) c.requires.judged c.requires.le_n.0 c.by_thong.ensures in
+    record { permitted = c.requires.judged.modulus; below = (ran.values, rw c.factor-by.ensures (mod-lt _ (omega arith))) }
 
 pub returns : goal.returns
-returns c =
-    let a = c in
-    let s = a in
-    inverted s.args.m.value s.args.n s.args.table.now s.args.buf.now a.factor-by.ensures s.requires.le_n.2 a.by_thong.ensures c.scale.ensures
+returns c = inverted c.args.m.value c.args.n c.args.table.now c.args.buf.now c.factor-by.ensures c.requires.le_n.2 c.by_thong.ensures c.scale.ensures

@@ -8,18 +8,16 @@ use Rattle.scans.proofs.columns.column_stage.Goals as goal
 
 pub stage-requires : goal.stage-requires
 stage-requires c =
-    let s = c in
-    let rest = s.args.n - 1 - s.args.s in
-    let k = fits {n = s.args.n} s.args.s rest (omega arith) refl (table_pairs s.args.n (omega arith) s.requires.s_lt_n.3) in
+    let rest = c.args.n - 1 - c.args.s in
+    let k = fits {n = c.args.n} c.args.s rest (omega arith) refl (table_pairs c.args.n (omega arith) c.requires.s_lt_n.3) in
     record {
-      scanned = s.requires.scanned;
-      buf_len = rw (shifted s.args.s (omega arith), shifted rest (omega arith)) (omega (arith, k.buffer, s.requires.s_lt_n.2));
-      le_stride = rw (shifted s.args.s (omega arith), shifted rest (omega arith)) (k.some, k.table);
+      scanned = c.requires.scanned;
+      buf_len = rw (shifted c.args.s (omega arith), shifted rest (omega arith)) (omega (arith, k.buffer, c.requires.s_lt_n.2));
+      le_stride = rw (shifted c.args.s (omega arith), shifted rest (omega arith)) (k.some, k.table);
     }
 
 pub returns : goal.returns
 returns c =
-    let s = c in
-    let rest : s.args.n - 1 - s.args.s ≡ s.args.n - suc s.args.s = omega arith in
-    let k = fits {n = s.args.n} s.args.s (s.args.n - suc s.args.s) (omega arith) refl refl in
-    rw (shifted s.args.s (omega arith), shifted (s.args.n - 1 - s.args.s) (omega arith), rest, ← k.buffer) at c.stage.ensures
+    let rest : c.args.n - 1 - c.args.s ≡ c.args.n - suc c.args.s = omega arith in
+    let k = fits {n = c.args.n} c.args.s (c.args.n - suc c.args.s) (omega arith) refl refl in
+    rw (shifted c.args.s (omega arith), shifted (c.args.n - 1 - c.args.s) (omega arith), rest, ← k.buffer) at c.stage.ensures

@@ -1,12 +1,9 @@
 -- Schedule 3 is the block of its first stage, and then itself on either half.
-use Prim.Native.Nat.{ℕ, ◌+◌, ◌-◌, ◌/◌}
-use mathlib.Core.Path.{◌≡◌, ◌∙◌}
-use mathlib.Core.List.{List, ◌++◌}
+use Prim.Native.Nat.{ℕ, ◌+◌, ◌/◌}
 use native.Mathlib.Omega.{arith}
-use lib.IntN.{ℤ}
-use lib.ListN.{length, drop}
+use lib.ListN.{length}
 use Rattle.scan_stages.proofs.Sizes.{scanned_most}
-use Rattle.scans.proofs.ByHalves.{sizes, Reached, reached_none, lent_long, half_lent, reached_next, reached_all, reached_one, reached_two}
+use Rattle.scans.proofs.ByHalves.{sizes, Reached, reached_none, reached_half, lent_long, half_lent, reached_next, reached_all, reached_one, reached_two}
 use Rattle.scans.proofs.halves.+by_halves.Goals as goal
 
 pub block-requires-clause-scanned : goal.block-requires-clause-scanned
@@ -34,10 +31,8 @@ by_halves-requires-then-h-gt2 t c =
     let k = sizes c.requires c.if-h-gt1.true in
     let size : ℕ = length a.buf.now / 2 in
     let begun : Reached a.stride a.table.now a.buf.now (size / 2) 0 c.block.new.buf = reached_none _ _ c.block.ensures in
-    let back : List ℤ = c.by_halves.new.buf ++ drop size c.block.new.buf in
-    let middle : Reached a.stride a.table.now a.buf.now (size / 2) (size / 2) back = reached_next begun k 0 size (omega arith) (omega arith) k.whole 0 _ (omega arith) (omega arith) c.by_halves.ensures in
-    let rest : length back - size ≡ size = omega (arith, k.whole, middle.whole.long) in
-    (omega (arith, c.decreases, lent_long middle k size (length back - size) (omega arith) k.whole (rest ∙ k.whole)), half_lent middle k size (length back - size) (omega arith) k.whole (rest ∙ k.whole) c.requires)
+    let middle = reached_half begun k c.by_halves.ensures in
+    (omega (arith, c.decreases, lent_long middle.0 k size _ (omega arith) k.whole middle.1), half_lent middle.0 k size _ (omega arith) k.whole middle.1 c.requires)
 
 -- Behind the second.
 pub returns-then-h-gt2 : goal.returns-then-h-gt2
@@ -46,10 +41,8 @@ returns-then-h-gt2 t c =
     let k = sizes c.requires c.if-h-gt1.true in
     let size : ℕ = length a.buf.now / 2 in
     let begun : Reached a.stride a.table.now a.buf.now (size / 2) 0 c.block.new.buf = reached_none _ _ c.block.ensures in
-    let back : List ℤ = c.by_halves.new.buf ++ drop size c.block.new.buf in
-    let middle : Reached a.stride a.table.now a.buf.now (size / 2) (size / 2) back = reached_next begun k 0 size (omega arith) (omega arith) k.whole 0 _ (omega arith) (omega arith) c.by_halves.ensures in
-    let rest : length back - size ≡ size = omega (arith, k.whole, middle.whole.long) in
-    reached_all (reached_next middle k size (length back - size) (omega arith) k.whole (rest ∙ k.whole) 1 (size / 2 + size / 2) (omega arith) (omega arith) c.by_halves-then-h-gt2.ensures) k
+    let middle = reached_half begun k c.by_halves.ensures in
+    reached_all (reached_next middle.0 k size _ (omega arith) k.whole middle.1 1 (size / 2 + size / 2) (omega arith) (omega arith) c.by_halves-then-h-gt2.ensures) k
 
 -- Two points: nothing is left to do.
 pub returns-else-h-gt2 : goal.returns-else-h-gt2

@@ -5,6 +5,5 @@ use Rattle.scans.proofs.shuffle.through_scratch.Goals as goal
 
 pub returns : goal.returns
 returns c =
-    let copied = c in
-    let stage = copied.shuffle_stage in
-    record { buf_after = copied.copy.ensures ∙ stage.ensures; scratch_after = c.clear.ensures ∙ ap zeros stage.auto.to }
+    let stage = c.shuffle_stage in
+    record { buf_after = c.copy.ensures ∙ stage.ensures; scratch_after = c.clear.ensures ∙ ap zeros stage.auto.to }

@@ -5,6 +5,5 @@ use Rattle.shuffles.proofs.turns.through_scratch.Goals as goal
 
 pub returns : goal.returns
 returns c =
-    let copied = c in
-    let stage = copied.stage in
-    record { buf_after = copied.copy.ensures ∙ stage.ensures; scratch_after = c.clear.ensures ∙ ap zeros stage.auto.to }
+    let stage = c.stage in
+    record { buf_after = c.copy.ensures ∙ stage.ensures; scratch_after = c.clear.ensures ∙ ap zeros stage.auto.to }
