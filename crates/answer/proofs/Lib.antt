@@ -1,5 +1,4 @@
 -- Laws that serve proofs of code.
-pub mod Powers
 pub mod Writes
 pub mod Parts
 pub mod Pairs

@@ -1,6 +1,6 @@
 -- Lists by their places: the list of a function's values, and a list that holds them.
 use Rattle.std.specs.Prelude.{ℕ, zero, suc, ◌<◌, ◌≡◌, refl, List, length, get_or}
-use Rattle.std.proofs.Common.{sym, ap, ◌∙◌, not-suc-le-zero, le_of_suc-le-suc, arith, ext_get_or}
+use Rattle.std.proofs.Common.{sym, ◌∙◌, not-suc-le-zero, le_of_suc-le-suc, arith, ext_get_or}
 use Rattle.answer.specs.Lists.{Holds, holds_self, length-tabulate, tabulate}
 
 pub get_or-tabulate : {A : Type 0} (d : A) (n : ℕ) (f : ℕ → A) (p : ℕ) → p < n → get_or (tabulate n f) p d ≡ f p

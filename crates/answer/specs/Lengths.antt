@@ -1,5 +1,5 @@
 -- The permitted lengths.
-use Rattle.std.specs.Prelude.{ℕ, zero, suc, ◌+◌, ◌^◌, ◌≤◌, ◌<◌, ◌≡◌, refl, Bool, true, false, cond, eqb}
+use Rattle.std.specs.Prelude.{ℕ, zero, suc, ◌+◌, ◌^◌, ◌≤◌, ◌<◌, ◌≡◌, refl, Bool, true, false, cond, eqb, Option, Some, None}
 use Rattle.std.proofs.Common.{sym, ⊎_elim, eq-or-lt_of_le, arith, eq-eqb, ne_eqb, eqb-true}
 use Rattle.std.proofs.Math.Pow.{pow-lt}
 
@@ -11,6 +11,14 @@ log_up_to (suc k) N = cond (eqb N (2 ^ suc k)) (suc k) (log_up_to k N)
 -- The n of a permitted length, "N = 2^n, from 2 to 4,096", or 0 where N is not permitted.
 unfoldable pub log_of : ℕ → ℕ
 log_of N = log_up_to 12 N
+
+-- The n of a permitted length, as code answers it.
+abbrev pub as_exponent : ℕ → Option ℕ
+as_exponent zero = None
+as_exponent (suc n) = Some (suc n)
+
+abbrev pub exponent_of : ℕ → Option ℕ
+exponent_of N = as_exponent (log_of N)
 
 -- The n of the N = 2^n that a table of h = N/2 entries is for, or 0 where no permitted N has it.
 abbrev pub table_log : ℕ → ℕ

@@ -1,15 +1,13 @@
 -- The search for the first bad place. What its answer says stands in proofs/.
 use Prim.Native.Nat.{ℕ, zero, suc, ◌+◌, ◌<◌}
-use Rattle.std.specs.Prelude.{◌≡◌, Bool, cond}
+use Rattle.std.specs.Prelude.{◌≡◌, Bool, cond, Option, Some, None}
 use Rattle.std.proofs.Math.Bool.{true, false}
 use Rattle.std.proofs.Common.{arith, below_more}
-use Rattle.answer.specs.declared.Found.{Found}
-use Rattle.answer.specs.declared.Found.TheVariants.{At, Nowhere}
 
 -- The first of the places i, i + 1, .. (k of them) at which the test fails.
-unfoldable pub first : (ℕ → Bool) → ℕ → ℕ → Found
-first ok i zero = Nowhere
-first ok i (suc k) = cond (ok i) (first ok (suc i) k) (At i)
+unfoldable pub first : (ℕ → Bool) → ℕ → ℕ → Option ℕ
+first ok i zero = None
+first ok i (suc k) = cond (ok i) (first ok (suc i) k) (Some i)
 
 -- The test holds at each of the places 0, .., k - 1.
 pub record Passed (ok : ℕ → Bool) (k : ℕ) : Type 0 where

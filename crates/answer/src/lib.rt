@@ -1,96 +1,99 @@
-// What every public call needs: the answer it gives, the mark of a search, and the permitted lengths.
+// What every public call needs: the answer it gives, the refusals behind it, and the permitted lengths.
 #![tactic(auto)]
 
-ghost use Rattle.std.specs.Prelude.{◌≡◌};
-ghost use Rattle.answer.specs.Lengths.{log_of, table_log};
+ghost use Rattle.std.specs.Prelude.{◌≡◌, ◌+◌};
+ghost use Rattle.answer.specs.Choice.{answer_of, answered};
+ghost use Rattle.answer.specs.Lengths.{exponent_of};
 
-// What a call answers: document 01's number and place.
+// What a call answers, as C sees it: number and place; 0 and 0 where its work is done.
 #[repr(C)]
-#[derive(Clone, Copy)]
+#[derive(Clone, Copy, Debug, PartialEq, Eq)]
 pub struct Answer {
     pub number: u32,
     pub place: usize,
 }
 
-// The answers whose place is 0, by document 01's table.
-
-// 0: done.
-pub const DONE: Answer = Answer {
-    number: 0,
-    place: 0,
-};
-
-// 1: data is not N entries (2N in fixed point) for a permitted N.
-pub const LENGTH: Answer = Answer {
-    number: 1,
-    place: 0,
-};
-
-// 2: m even, below 3, or above 2^31 - 1.
-pub const MODULUS: Answer = Answer {
-    number: 2,
-    place: 0,
-};
-
-// 3: the table's length is not that of N; when filling or accepting alone, not that of any permitted N.
-pub const TABLE_LENGTH: Answer = Answer {
-    number: 3,
-    place: 0,
-};
-
-// 6: scratch not as long as data.
-pub const SCRATCH: Answer = Answer {
-    number: 6,
-    place: 0,
-};
-
-// 7: schedule not offered by this call.
-pub const SCHEDULE: Answer = Answer {
-    number: 7,
-    place: 0,
-};
-
-// 8: stage not below n.
-pub const STAGE: Answer = Answer {
-    number: 8,
-    place: 0,
-};
-
-// 9: no such house row.
-pub const ROW: Answer = Answer {
-    number: 9,
-    place: 0,
-};
-
-// What a search for the first bad place answers. `Nowhere` is the accepted mark.
-#[derive(Clone, Copy)]
-pub enum Found {
-    At(usize),
-    Nowhere,
+// Why a call does nothing.
+#[derive(Clone, Copy, Debug, PartialEq, Eq)]
+pub enum Refusal {
+    // 1: data is not N entries (2N in fixed point) for a permitted N.
+    Length,
+    // 2: m even, below 3, or above 2^31 - 1.
+    Modulus,
+    // 3: the table's length is not that of N; when filling or accepting alone, not that of any permitted N.
+    TableLength,
+    // 4: the first place at which a rule of the table fails.
+    Entry(usize),
+    // 5: the first place of a sample that is not permitted.
+    Sample(usize),
+    // 6: scratch not as long as data.
+    Scratch,
+    // 7: schedule not offered by this call.
+    Schedule,
+    // 8: stage not below n.
+    Stage,
+    // 9: no such house row.
+    Row,
+    // 10: the place at which a request cannot be read.
+    Request(usize),
 }
 
-// The n of a permitted length 2^n, n from 1 to 12, or 0 where the length is not permitted.
-pub fn log_of(len: usize) -> usize
-    ensures { result ≡ log_of len }
-{
-    let mut n = 12;
-    let mut power = 4096;
-    while 0 < n {
-        if len == power {
-            return n;
-        }
-        power = power / 2;
-        n -= 1;
+// The refusal's number, and its place, which is 0 where it names none.
+impl From<Refusal> for Answer {
+    ghost from_gives = { λ refusal answer. answer ≡ answer_of refusal };
+
+    fn from(refusal: Refusal) -> Answer {
+        let (number, place) = match refusal {
+            Refusal::Length => (1, 0),
+            Refusal::Modulus => (2, 0),
+            Refusal::TableLength => (3, 0),
+            Refusal::Entry(place) => (4, place),
+            Refusal::Sample(place) => (5, place),
+            Refusal::Scratch => (6, 0),
+            Refusal::Schedule => (7, 0),
+            Refusal::Stage => (8, 0),
+            Refusal::Row => (9, 0),
+            Refusal::Request(place) => (10, place),
+        };
+        Answer { number, place }
     }
-    0
 }
 
-// The n of the length 2^n that a table of `len` entries is for, or 0 where there is none.
-pub fn table_log(len: usize) -> usize
-    ensures { result ≡ table_log len }
+// Done, or the refusal.
+impl<T: Drop> From<Result<T, Refusal>> for Answer {
+    ghost from_gives = { λ outcome answer. answer ≡ answered outcome };
+
+    fn from(outcome: Result<T, Refusal>) -> Answer {
+        match outcome {
+            Ok(_) => Answer {
+                number: 0,
+                place: 0,
+            },
+            Err(refusal) => Answer::from(refusal),
+        }
+    }
+}
+
+// The n of a permitted length 2^n, n from 1 to 12.
+#[tactic(auto, using(crate::proofs::Lengths::exponent_met, crate::proofs::Lengths::exponent_missed))]
+pub fn log_of(len: usize) -> Option<usize>
+    ensures { result ≡ exponent_of len }
+{
+    for n in 1..13 {
+        if len == 1 << n {
+            return Some(n);
+        }
+    }
+    None
+}
+
+// The n of the length 2^n that a table of `len` entries is for.
+#[tactic(auto, using(crate::proofs::Lengths::exponent_none))]
+pub fn table_log(len: usize) -> Option<usize>
+    ensures { result ≡ exponent_of (len + len) }
 {
     if 2048 < len {
-        return 0;
+        return None;
     }
     log_of(len + len)
 }

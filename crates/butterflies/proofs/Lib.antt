@@ -1,4 +1,2 @@
 -- Laws that serve proofs of code.
-pub mod Exponents
-pub mod Blocks
-pub mod Going
+pub mod Asked

@@ -1,2 +1,2 @@
--- What the stages in place compute.
-pub mod Ways
+-- What residues in a buffer, and the steps on them, keep.
+pub mod Laws

@@ -1,24 +1,37 @@
-// The exponents of a stage, pair after pair.
+// The exponents of a stage of schedule 2 or 5, pair after pair.
 #![tactic(auto)]
 
 ghost use Rattle.std.specs.Prelude.{◌≡◌, suc, ◌+◌, ◌-◌, ◌*◌, ◌%◌, ◌^◌, ◌≤◌, ◌<◌};
 ghost use Rattle.fourier.specs.Reverse.{rev};
-ghost use Rattle.counting.specs.Exponents.{exponents};
+ghost use Rattle.counting.specs.Exponents.{multiples, reversals, multiples_lawful, reversals_lawful};
 
-use butterflies::Way;
 use residues::Exponent;
+use stages::Exponents;
 
-// The exponent of pair k + 1, where e is that of pair k.
-pub fn next(way: Way, e: Exponent, k: usize, n: usize, s: usize) -> Exponent
-    requires s_lt_n { (s < n) × (n ≤ 12) × (k < 2048) }
-    requires e_value { e.0 ≡ exponents way n s k }
-    ensures { result.0 ≡ exponents way n s (k + 1) }
-{
-    if let Way::Frequency = way {
+// Schedule 2's exponents.
+pub struct Multiples;
+
+impl Exponents for Multiples {
+    ghost of = { multiples };
+
+    fn next(_e: Exponent, k: usize, _n: usize, s: usize) -> Exponent {
         Exponent(multiple(k + 1, s))
-    } else {
+    }
+
+    ghost laws = { multiples_lawful };
+}
+
+// Schedule 5's exponents.
+pub struct Reversals;
+
+impl Exponents for Reversals {
+    ghost of = { reversals };
+
+    fn next(e: Exponent, k: usize, n: usize, s: usize) -> Exponent {
         Exponent(reversed(e.0, k, n, s))
     }
+
+    ghost laws = { reversals_lawful };
 }
 
 // Schedule 2's "k - (k mod 2^s)".
@@ -38,15 +51,13 @@ fn reversed(e: usize, k: usize, n: usize, s: usize) -> usize
     let mut rest = e;
     let mut high = k;
     let mut bit = 1 << (n - 1);
-    let mut left = s;
-    while 0 < left {
+    for past in 0..s {
         bit = bit / 2;
         if high % 2 == 0 {
             return rest + bit;
         }
         rest -= bit;
         high = high / 2;
-        left -= 1;
     }
     0
 }

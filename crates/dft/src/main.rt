@@ -19,12 +19,13 @@ fn main(rt: HostRuntime) -> io::Result<()> {
 fn serve<R: Read, W: Write>(from: &mut R, to: &mut W) -> io::Result<()>
     ensures { OnOk result (IfSome (R.remaining from.old) (λ xs. Appends (W.contents to.old) (W.contents to.new) (line (printed xs)))) }
 {
-    let mut input = space();
+    let mut input = request::space::<u8, 65536>();
     let n = read_full(from, &mut input)?;
     line::print(to, &input[..n])
 }
 
-// Reads until buf is full or the input ends, and returns how many bytes now stand at the start of buf: the input's first.
+// Reads until buf is full or the input ends, and returns how many bytes now stand at the start of buf: the input's first. By hand, since
+// `read_exact` fails where the input is shorter, and `read_to_end` wants a heap.
 fn read_full<R: Read>(from: &mut R, buf: &mut [u8]) -> io::Result<usize>
     ensures in_bounds { ReadsAtMost result buf.new }
     ensures bytes { IfSome (R.remaining from.old) (λ xs. IfOk result (λ n. take n buf.new ≡ take (length buf.old) xs)) }
@@ -38,11 +39,4 @@ fn read_full<R: Read>(from: &mut R, buf: &mut [u8]) -> io::Result<usize>
         done += n;
     }
     Ok(done)
-}
-
-// Zeros, behind a contract that says only how many: memory for a request.
-fn space() -> [u8; 65536]
-    ensures { 65536 ≡ length result }
-{
-    [0; 65536]
 }

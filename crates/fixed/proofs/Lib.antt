@@ -1,2 +1,2 @@
 -- Laws that serve proofs of code.
-pub mod Swaps
+pub mod Judged

@@ -1,4 +1,5 @@
-// The public calls in fixed point. Each tests everything that it is lent, in document 01's order, and only then works.
+// The public calls in fixed point. Each tests everything that it is lent, in document 01's order, and only then works. Schedules are numbers
+// here, and each lent buffer a parameter, since so C gives them; the judgement makes an enum of the number.
 #![tactic(auto)]
 
 mod reversing;

@@ -1,8 +1,7 @@
 -- What the calls in fixed point answer: the first of document 01's conditions that holds, in its order.
-use Rattle.std.specs.Prelude.{ℕ, ◌/◌, ◌%◌, Bool, true, cond, ◌&&◌, List, ltb, leb, eqb, ℤ, pos, negsuc, length}
+use Rattle.std.specs.Prelude.{ℕ, ◌/◌, ◌%◌, Bool, true, cond, ◌&&◌, Option, List, ltb, leb, eqb, ℤ, pos, negsuc, length}
 use Rattle.std.specs.Int.Signed.{le_z}
 use Rattle.answer.specs.declared.Answer.{Answer}
-use Rattle.answer.specs.declared.Found.{Found}
 use Rattle.answer.specs.Choice.{refuse, done, unless, judged_at}
 use Rattle.answer.specs.Lengths.{log_of}
 use Rattle.answer.specs.Search.{first}
@@ -32,7 +31,7 @@ abbrev pub ranged : List ℤ → ℕ → Bool
 ranged buf q = in_range (number buf q)
 
 -- 5: the first number "outside the fixed range".
-abbrev pub bad_sample : List ℤ → Found
+abbrev pub bad_sample : List ℤ → Option ℕ
 bad_sample buf = first (ranged buf) 0 (length buf)
 
 -- Scratch is as long as the data, where it counts: for schedule 2.

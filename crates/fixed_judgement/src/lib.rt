@@ -1,23 +1,29 @@
 // What the calls in fixed point judge, in document 01's order. Nothing here writes.
 #![tactic(auto)]
 
-ghost use Rattle.std.specs.Prelude.{◌≡◌};
-ghost use Rattle.fixed_judgement.specs.Verdicts.{points_log, in_range, bad_sample, scratch_fits, offers, transform_verdict};
+ghost use Rattle.std.specs.Prelude.{◌≡◌, length, IfOk};
+ghost use Rattle.answer.specs.Choice.{answered};
+ghost use Rattle.answer.specs.Lengths.{as_exponent};
+ghost use Rattle.fixed_judgement.specs.Schedules.{number_of};
+ghost use Rattle.fixed_judgement.specs.Verdicts.{points_log, in_range, bad_sample, scratch_fits, transform_verdict};
 
-use answer::{Answer, Found};
+mod schedules;
+
+use answer::Refusal;
+pub use schedules::Schedule;
 
 // "A sample part lies from -32,767 to 32,767."
 const LEAST: i32 = -32767;
 
 const MOST: i32 = 32767;
 
-// The n of the N = 2^n points that `len` numbers are, or 0 where no permitted N has so many.
+// The n of the N = 2^n points that `len` numbers are, for a permitted N.
 #[tactic(auto, unfolding(crate::specs::Verdicts::points_log))]
-pub fn points_log(len: usize) -> usize
-    ensures { result ≡ points_log len }
+pub fn points_log(len: usize) -> Option<usize>
+    ensures { result ≡ as_exponent (points_log len) }
 {
     if len % 2 != 0 {
-        return 0;
+        return None;
     }
     answer::log_of(len / 2)
 }
@@ -27,74 +33,50 @@ pub fn points_log(len: usize) -> usize
 fn in_range(part: i32) -> bool
     ensures { result ≡ in_range part }
 {
-    if part < LEAST {
-        return false;
-    }
-    part <= MOST
+    LEAST <= part && part <= MOST
 }
 
-// Refusal 5: the index of the first number outside the range, or the accepted mark.
-fn judge_samples(buf: &[i32]) -> Found
+// Refusal 5: the index of the first number outside the range, or none. A function of its own in the code too: drawn into the transform, its
+// loop kept a bound in memory.
+#[inline(never)]
+fn judge_samples(buf: &[i32]) -> Option<usize>
     ensures { result ≡ bad_sample buf.now }
 {
-    let mut index = 0;
-    loop {
-        if index == buf.len() {
-            break Found::Nowhere;
-        }
-        if !in_range(buf[index]) {
-            break Found::At(index);
-        }
-        index += 1;
-    }
-}
-
-// The schedules of the transform.
-#[tactic(auto, unfolding(crate::specs::Verdicts::offers))]
-fn offered(schedule: u32) -> bool
-    ensures { result ≡ offers schedule }
-{
-    if schedule < 1 {
-        return false;
-    }
-    schedule <= 3
+    buf.iter().position(|part| !in_range(*part))
 }
 
 // Whether scratch is as long as the data, where it counts for the schedule.
 #[tactic(auto, unfolding(crate::specs::Verdicts::scratch_fits))]
-fn scratch_fits(schedule: u32, scratch: usize, len: usize) -> bool
-    ensures { result ≡ scratch_fits schedule scratch len }
+fn scratch_fits(schedule: Schedule, scratch: usize, len: usize) -> bool
+    ensures { result ≡ scratch_fits (number_of schedule) scratch len }
 {
-    if schedule == 2 {
-        return scratch == len;
-    }
-    true
+    schedule != Schedule::Shuffle || scratch == len
 }
 
-// The transform: 7, 1, 6, 3, 4, 5.
+// The transform: 7, 1, 6, 3, 4, 5. What passes is its schedule and its n.
 #[tactic(auto, unfolding(crate::specs::Verdicts::transform_verdict))]
-pub fn judge_transform(schedule: u32, buf: &[i32], table: &[i32], scratch: usize) -> Answer
-    ensures { result ≡ transform_verdict schedule buf.now table.now scratch }
+pub fn judge_transform(
+    schedule: u32,
+    buf: &[i32],
+    table: &[i32],
+    scratch: usize,
+) -> Result<(Schedule, usize), Refusal>
+    ensures answers { answered result ≡ transform_verdict schedule buf.now table.now scratch }
+    ensures passes { IfOk result (λ w. (number_of w.0 ≡ schedule) × (w.1 ≡ points_log (length buf.now))) }
 {
-    if !offered(schedule) {
-        return answer::SCHEDULE;
-    }
-    if points_log(buf.len()) == 0 {
-        return answer::LENGTH;
-    }
+    let schedule = Schedule::try_from(schedule)?;
+    let n = points_log(buf.len()).ok_or(Refusal::Length)?;
     if !scratch_fits(schedule, scratch, buf.len()) {
-        return answer::SCRATCH;
+        return Err(Refusal::Scratch);
     }
     if table.len() != buf.len() / 2 {
-        return answer::TABLE_LENGTH;
+        return Err(Refusal::TableLength);
     }
-    let pair = tables::judge_table(table);
-    if let Found::At(place) = pair {
-        return Answer { number: 4, place };
+    if let Some(place) = tables::judge_table(table) {
+        return Err(Refusal::Entry(place));
     }
-    let sample = judge_samples(buf);
-    if let Found::At(place) = sample {
-        return Answer { number: 5, place };
+    if let Some(place) = judge_samples(buf) {
+        return Err(Refusal::Sample(place));
     }
-    answer::DONE
+    Ok((schedule, n))
 }

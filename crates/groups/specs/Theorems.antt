@@ -1,6 +1,6 @@
 -- What is written is read back, what is read writes the same bytes, and 80 is never followed by 00 inside a number.
 use Prim.Native.Nat.{ℕ, zero, suc, ◌+◌, ◌-◌, ◌*◌, ◌/◌, ◌%◌, ◌^◌, ◌<◌, ◌≤◌}
-use Rattle.std.specs.Prelude.{◌≡◌, refl, Bool, true, false, cond, List, [], ◌∷◌, ◌++◌, drop, take, ltb, eqb}
+use Rattle.std.specs.Prelude.{◌≡◌, refl, Bool, true, false, cond, List, [], ◌∷◌, ◌++◌, drop, take, ltb, eqb, Ok}
 use Rattle.std.proofs.Common.{sym, ap, ◌∙◌, div-add-mod', add-one, length-drop, get_or-drop, get_or-take, drop-drop, length-take-le}
 use Rattle.std.proofs.Math.Nat.{pow-succ'}
 use native.Mathlib.Omega.{arith}
@@ -9,28 +9,27 @@ use Rattle.std.proofs.Math.ListN.{length}
 use borrow.Author.Tests.{lt-ltb, le-ltb, eqb-true}
 use Rattle.answer.specs.Lists.{at}
 use Rattle.groups.specs.Bases.{base_one, base_more, base_every, base_less, base_enough}
-use Rattle.groups.specs.declared.Number.TheVariants.{Value, Fault}
-use Rattle.groups.specs.Groups.{overlong, whole, reading, number_at, groups, bytes_of}
+use Rattle.groups.specs.Groups.{Number, fault, overlong, whole, reading, number_at, groups, bytes_of}
 
 -- ---- the reader, byte by byte
 
 -- What the last byte makes of the number.
 module _ (p i byte v : ℕ) where
-  pub whole_long : overlong i byte ≡ true → whole p i byte v ≡ Fault p
+  pub whole_long : overlong i byte ≡ true → whole p i byte v ≡ fault p
   unfolding whole
   whole_long e = rw e
 
   module _ (e : overlong i byte ≡ false) where
-    pub whole-value : v < 4294967296 → whole p i byte v ≡ Value v (suc (p + i))
+    pub whole-value : v < 4294967296 → whole p i byte v ≡ Ok (v, suc (p + i))
     unfolding whole
     whole-value h = simp (e, lt-ltb v 4294967296 h)
 
-    pub whole_large : 4294967296 ≤ v → whole p i byte v ≡ Fault p
+    pub whole_large : 4294967296 ≤ v → whole p i byte v ≡ fault p
     unfolding whole
     whole_large h = simp (e, le-ltb v 4294967296 h)
 
 module _ (s : List ℕ) (p k i low : ℕ) where
-  pub reading_ended : length s ≤ p + i → reading s p (suc k) i low ≡ Fault (length s)
+  pub reading_ended : length s ≤ p + i → reading s p (suc k) i low ≡ fault (length s)
   unfolding reading
   reading_ended h = rw (le-ltb (p + i) (length s) h)
 
@@ -88,17 +87,21 @@ module _ (s : List ℕ) (p b : ℕ) (r : List ℕ) (e : drop p s ≡ b ∷ r) wh
   behind : drop (suc p) s ≡ r
   behind = rw (← add-one) (sym (drop-drop 1 p s) ∙ ap (drop 1) e)
 
-value_eq : {v w p q : ℕ} → v ≡ w → p ≡ q → Value v p ≡ Value w q
+value_eq : {v w p q : ℕ} → v ≡ w → p ≡ q → ◌≡◌ {A = Number} (Ok (v, p)) (Ok (w, q))
 value_eq a b = cc
+
+-- A number that is read is the only one, and so is the place behind it.
+pub value_same : {v w p q : ℕ} → ◌≡◌ {A = Number} (Ok (v, p)) (Ok (w, q)) → (v ≡ w) × (p ≡ q)
+value_same {v} {w} {p} {q} e = let pair : ◌≡◌ {A = ℕ × ℕ} (v, p) (w, q) = cc in (ap (λ (x : ℕ × ℕ). x.0) pair, ap (λ (x : ℕ × ℕ). x.1) pair)
 
 -- The number's bytes from byte i on are the groups of u: the number is of the value that they make with those before.
 abbrev Back : List ℕ → ℕ → ℕ → Type 0
 Back s p k =
     (i low u : ℕ) (r : List ℕ) → u < 128 ^ suc k → (u ≡ 0 → i ≡ 0) → low + 128 ^ i * u < 4294967296 → drop (p + i) s ≡ groups k u ++ r →
-    reading s p (suc k) i low ≡ Value (low + 128 ^ i * u) (p + i + length (groups k u))
+    reading s p (suc k) i low ≡ Ok (low + 128 ^ i * u, p + i + length (groups k u))
 
 back_one : (s : List ℕ) (p k i low u : ℕ) (r : List ℕ) → u < 128 → (u ≡ 0 → i ≡ 0) → low + 128 ^ i * u < 4294967296 → drop (p + i) s ≡ groups k u ++ r →
-    reading s p (suc k) i low ≡ Value (low + 128 ^ i * u) (p + i + length (groups k u))
+    reading s p (suc k) i low ≡ Ok (low + 128 ^ i * u, p + i + length (groups k u))
 back_one s p k i low u r l first small e =
     let one = groups-one k u l in
     let e' : drop (p + i) s ≡ u ∷ r = rw one at e in
@@ -107,7 +110,7 @@ back_one s p k i low u r l first small e =
     ∙ rw (h, one) (whole-value p i u (low + 128 ^ i * u) (short i u first) small ∙ value_eq refl (omega arith))
 
 back_more : (s : List ℕ) (p k i low u : ℕ) (r : List ℕ) → Back s p k → 128 ≤ u → u < 128 ^ suc (suc k) → low + 128 ^ i * u < 4294967296 → drop (p + i) s ≡ groups (suc k) u ++ r →
-    reading s p (suc (suc k)) i low ≡ Value (low + 128 ^ i * u) (p + i + length (groups (suc k) u))
+    reading s p (suc (suc k)) i low ≡ Ok (low + 128 ^ i * u, p + i + length (groups (suc k) u))
 back_more s p k i low u r ih l h small e =
     let more = groups_more k u l in
     let e' : drop (p + i) s ≡ (u % 128 + 128) ∷ (groups k (u / 128) ++ r) = rw more at e in
@@ -124,12 +127,12 @@ back : (s : List ℕ) (p k : ℕ) → Back s p k
 back s p zero i low u r h first small e = back_one s p zero i low u r (omega arith) first small e
 back s p (suc k) i low u r h first small e = by (dec_lt u 128) (back s p k)
   where
-    by : Dec (u < 128) → Back s p k → reading s p (suc (suc k)) i low ≡ Value (low + 128 ^ i * u) (p + i + length (groups (suc k) u))
+    by : Dec (u < 128) → Back s p k → reading s p (suc (suc k)) i low ≡ Ok (low + 128 ^ i * u, p + i + length (groups (suc k) u))
     by (yes l) ih = back_one s p (suc k) i low u r l first small e
     by (no l) ih = back_more s p k i low u r ih (omega arith) h small e
 
 -- What is written at p is read there.
-pub read_back : (s : List ℕ) (p v : ℕ) (r : List ℕ) → v < 4294967296 → drop p s ≡ bytes_of v ++ r → number_at s p ≡ Value v (p + length (bytes_of v))
+pub read_back : (s : List ℕ) (p v : ℕ) (r : List ℕ) → v < 4294967296 → drop p s ≡ bytes_of v ++ r → number_at s p ≡ Ok (v, p + length (bytes_of v))
 read_back s p v r h e =
     let here : p + 0 ≡ p = omega arith in
     rw here at (back s p 4 0 0 v r (omega arith) (λ z. refl) (omega arith) (rw here e)) ∙ value_eq (omega arith) refl

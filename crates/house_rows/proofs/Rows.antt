@@ -1,4 +1,5 @@
 -- The 36 constants of the house rows follow their one rule, and what it says of the roots.
+use Rattle.std.specs.Prelude.{None}
 use Rattle.std.specs.Prelude.{ℕ, zero, suc, ◌+◌, ◌-◌, ◌*◌, ◌/◌, ◌%◌, ◌^◌, ◌<◌, ◌≤◌, ◌≡◌, refl, true}
 use Rattle.std.proofs.Common.{sym, ap, ◌∙◌, arith, pow-add, pow_pos}
 use Rattle.std.proofs.Math.Bool.{and-eq-true_iff}
@@ -6,7 +7,6 @@ use Rattle.std.proofs.Math.Nat as N
 use borrow.Author.Tests.{eqb-true}
 use Rattle.answer.specs.Search.{first}
 use Rattle.answer.proofs.Search.{nowhere_passed}
-use Rattle.answer.specs.declared.Found.TheVariants.{Nowhere}
 use Rattle.algebra.specs.Gaps.{mod_mul_left, mod_mul_right}
 use Rattle.fourier.specs.Sizes.{rows}
 use Rattle.residues.specs.Moduli.{permits, Permitted, permits_permitted}
@@ -14,12 +14,12 @@ use Rattle.house_rows.specs.Powers.{power_one, power_squared}
 use Rattle.house_rows.specs.Rows.{constant, constants, modulus_of, root_of, rule, start}
 
 -- All 36 follow the rule.
-rules : first (λ p. rule (p / 12) (p % 12)) 0 36 ≡ Nowhere
+rules : first (λ p. rule (p / 12) (p % 12)) 0 36 ≡ None
 unfolding rule constant constants modulus_of first
 rules = refl
 
 -- All three rows start so.
-starts : first (λ row. start (modulus_of row) (constant row 11)) 0 3 ≡ Nowhere
+starts : first (λ row. start (modulus_of row) (constant row 11)) 0 3 ≡ None
 unfolding start constant constants modulus_of root_of permits first
 starts = refl
 

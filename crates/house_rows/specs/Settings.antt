@@ -1,10 +1,11 @@
 -- Settings, and the setting that a house row yields.
-use Rattle.std.specs.Prelude.{ℕ, suc, ◌-◌, ◌<◌, ◌≤◌, ◌≡◌, ltb, get_or, replicate}
+use Rattle.std.specs.Prelude.{ℕ, suc, ◌-◌, ◌<◌, ◌≤◌, ◌≡◌, ltb, get_or, replicate, Result, Ok, Err}
 use Rattle.std.proofs.Common.{sym, ap, ◌∙◌, arith, lt-ltb}
 use Rattle.answer.specs.Choice.{refuse, done, unless, if_done}
 use Rattle.answer.specs.Lists.{tabulate}
 use Rattle.answer.proofs.Lists.{get_or-tabulate}
 use Rattle.answer.specs.declared.Answer.{Answer}
+use Rattle.answer.specs.declared.Refusal.{Refusal}
 use Rattle.residues.specs.declared.Residue.{Residue}
 use Rattle.house_rows.specs.declared.Setting.{Setting}
 use Rattle.house_rows.specs.Rows.{modulus_of, root_of}
@@ -25,6 +26,11 @@ row_setting row = record { modulus = modulus_of row; roots = tabulate 12 (λ k. 
 -- A setting "of all zeros".
 abbrev pub zeros : Setting
 zeros = record { modulus = 0; roots = replicate 12 (residue 0) }
+
+-- The setting of an outcome, or zeros.
+abbrev pub setting_or_zeros : Result Setting Refusal → Setting
+setting_or_zeros (Ok setting) = setting
+setting_or_zeros (Err refusal) = zeros
 
 -- 9: "no such house row".
 abbrev pub verdict : ℕ → Answer

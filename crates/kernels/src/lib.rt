@@ -16,7 +16,7 @@ ghost use Rattle.points.specs.Steps.{rounded};
 ghost use Rattle.residues.specs.Judgement.{Judged};
 ghost use Rattle.scan_stages.specs.Scans.{Scanned};
 
-use residues::Modulus;
+use residues::{Modulus, Roots};
 
 // All n stages of the schedule, over residues.
 #[unsafe(no_mangle)]
@@ -35,7 +35,9 @@ pub extern "C" fn fdr_modular_kernel(
         (by_schedule schedule n m (length table.now) (at table.now) (at buf.old)) }
     ensures scratch_after { scratch.new ≡ cleared schedule scratch.old }
 {
-    modular_work::do_schedule(schedule, buf, table, Modulus { value: m }, n, scratch);
+    let schedule = modular_judgement::Schedule::try_from(schedule).unwrap();
+    let modulus = Modulus { value: m };
+    modular_work::do_schedule(schedule, buf, Roots { table, modulus }, n, scratch);
 }
 
 // All n stages of the schedule, in fixed point.
@@ -54,5 +56,6 @@ pub extern "C" fn fdr_fixed_kernel(
         (fixed-works.by_schedule schedule n Point (rounded half_up (point table.now)) (point buf.old)) }
     ensures scratch_after { scratch.new ≡ fixed-works.cleared schedule scratch.old }
 {
+    let schedule = fixed_judgement::Schedule::try_from(schedule).unwrap();
     fixed_work::do_schedule(schedule, buf, table, n, scratch);
 }

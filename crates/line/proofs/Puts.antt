@@ -4,9 +4,13 @@ use mathlib.Core.Path.{◌≡◌, sym, ap, ◌∙◌}
 use mathlib.Core.List.{List, [], ◌∷◌, ◌++◌, append_assoc, append-nil}
 use native.Mathlib.Nat.{le_refl}
 use native.Mathlib.Omega.{arith}
-use lib.ListN.{length, get_or, set, take, drop, length-append, length-drop, take-append-drop}
-use lib.Seq.{set_split, length-take-le, take-take, take-append-le, drop_at, drop-length, drop-cons, length-sets, take_at}
-use Rattle.answer.specs.declared.Answer.{Answer}
+use lib.ListN.{length, set, take, drop, length-append, length-drop, take-append-drop}
+use lib.Seq.{set_split, length-take-le, take-take, take-append-le, drop_at, take_at}
+use Rattle.std.proofs.lemmas.List.{nil_from_length}
+use Rattle.std.proofs.Common.{Result, Ok, Err}
+use Rattle.std.specs.Result.{result_unwrap_or}
+use Rattle.answer.specs.declared.Refusal.{Refusal}
+use Rattle.answer.specs.Choice.{answered}
 use Rattle.reading.specs.Requests.{printed}
 use Rattle.request.specs.Outcomes.{RequestOutcome}
 use Rattle.reading.specs.Theorems.{results_few}
@@ -95,34 +99,33 @@ unfolding spaced
 spaced_few [] = omega arith
 spaced_few (v ∷ l) = omega (arith, decimal_few v, spaced_few l, length-append (decimal v) (spaced l))
 
--- The numbers from i on are written in front of p.
-pub record Listing (numbers : List ℕ) (p : ℕ) (out out' : List ℕ) (i q : ℕ) : Type 0 where
-  pub put : Stands (spaced (drop i numbers)) p out q out'
-  pub within : i ≤ length numbers
+-- The numbers behind those that are left are written in front of p.
+pub record Listing (numbers : List ℕ) (p : ℕ) (out out' left : List ℕ) (q : ℕ) : Type 0 where
+  pub written : List ℕ
+  pub all : left ++ written ≡ numbers
+  pub put : Stands (spaced written) p out q out'
 
-pub listing_none : (numbers : List ℕ) (p : ℕ) (out : List ℕ) → Listing numbers p out out (length numbers) p
+pub listing_none : {numbers left : List ℕ} (p : ℕ) (out : List ℕ) → left ≡ numbers → Listing numbers p out out left p
 unfolding spaced
-listing_none numbers p out = record { put = rw drop-length (put_none p out); within = le_refl (length numbers) }
+listing_none {numbers} p out e = record { written = []; all = append-nil _ ∙ e; put = put_none p out }
 
-module _ {numbers : List ℕ} {p : ℕ} {out out' : List ℕ} {i q : ℕ} (r : Listing numbers p out out' i q) (high : p ≤ length out) where
+module _ {numbers : List ℕ} {p : ℕ} {out out' left : List ℕ} {q : ℕ} (r : Listing numbers p out out' left q) (high : p ≤ length out) where
   -- There is room for those that are left.
-  pub listing_room : 41 + 21 * length numbers ≤ p → (41 + 21 * i ≤ q) × (q ≤ length out')
+  pub listing_room : 41 + 21 * length numbers ≤ p → (41 + 21 * length left ≤ q) × (q ≤ length out')
   listing_room h =
-      (omega (arith, r.put.starts, spaced_few (drop i numbers), length-drop i numbers, r.within), omega (arith, r.put.starts, put-length r.put high))
+      let size = ap length r.all in
+      let parts = length-append left r.written in
+      (omega (arith, r.put.starts, spaced_few r.written), omega (arith, r.put.starts, put-length r.put high))
 
-  pub listing_more : {j o : ℕ} {out'' : List ℕ} → i ≡ suc j → Stands (32 ∷ decimal (get_or numbers j 0)) q out' o out'' → Listing numbers p out out'' j o
+  pub listing_more : {front : List ℕ} (v : ℕ) {o : ℕ} {out'' : List ℕ} → left ≡ front ++ v ∷ [] → Stands (32 ∷ decimal v) q out' o out'' → Listing numbers p out out'' front o
   unfolding spaced
-  listing_more {j} e s =
-      let h : j < length numbers = omega (arith, r.within) in
-      record { put = rw (drop-cons numbers j 0 h) (rw e at (put-put r.put high s)); within = omega arith }
+  listing_more {front} v e s =
+      record { written = v ∷ r.written; all = sym (append_assoc front (v ∷ []) r.written) ∙ rw e at r.all; put = put-put r.put high s }
 
-  pub listing_all : i ≤ 0 → Stands (spaced numbers) p out q out'
-  listing_all h = let e : i ≡ 0 = omega arith in rw e at r.put
+  pub listing_all : length left ≡ 0 → Stands (spaced numbers) p out q out'
+  listing_all e = let none : left ≡ [] = nil_from_length left e in let all : r.written ≡ numbers = rw none at r.all in rw all at r.put
 
 -- ---- the line
-
-pub few : (count : ℕ) (results : List ℕ) {room : ℕ} → count ≤ length results → 42 + 21 * count ≤ room → 42 + 21 * length (take count results) ≤ room
-few count results h l = rw (length-take-le count results h) l
 
 module _ (out l : List ℕ) (few : 42 + 21 * length l ≤ length out) where
   -- The newline at the end.
@@ -151,18 +154,18 @@ module _ (out l : List ℕ) (few : 42 + 21 * length l ≤ length out) where
 
 -- ---- what a request leaves
 
-module _ (input : List ℕ) {results : List ℕ} {answer : Answer} {count : ℕ} {results' : List ℕ} (memory : 4096 ≡ length results) (r : RequestOutcome input results answer count results') where
-  pub memory_kept : 4096 ≡ length results'
-  memory_kept = memory ∙ sym (ap length r.leaves ∙ length-sets results 0 (printed input).results)
+module _ (input results results' : List ℕ) where
+  -- The results are not many.
+  pub results_fit : (reply : Result ℕ Refusal) → RequestOutcome input results reply results' → result_unwrap_or reply 0 ≤ 4096
+  results_fit (Ok count) r = omega (arith, r.1, results_few input)
+  results_fit (Err refusal) r = omega arith
 
-  -- The results lie in the memory, and are not many.
-  pub results_fit : (count ≤ length results') × (count ≤ 4096)
-  results_fit = (omega (arith, memory_kept, r.counts, results_few input), omega (arith, r.counts, results_few input))
-
-  -- They are read back from there.
-  pub results_read : record { answer = answer; results = take count results' } ≡ printed input
-  results_read =
-      let fit : count ≤ length results = omega (arith, results_fit, memory_kept, memory) in
-      let front = r.leaves ∙ sets_front results (printed input).results count (sym r.counts) fit in
-      let read = ap (take count) front ∙ take_at (printed input).results (drop count results) count (sym r.counts) in
-      λ i. record { answer = r.answers i; results = read i }
+  -- They are read back from the memory.
+  pub results_read : (reply : Result ℕ Refusal) → 4096 ≡ length results → RequestOutcome input results reply results' →
+      record { answer = answered reply; results = take (result_unwrap_or reply 0) results' } ≡ printed input
+  results_read (Ok count) memory r =
+      let fit : count ≤ length results = omega (arith, r.1, results_few input) in
+      let front = r.2 ∙ sets_front results (printed input).results count (sym r.1) fit in
+      let read = ap (take count) front ∙ take_at (printed input).results (drop count results) count (sym r.1) in
+      λ i. record { answer = sym r.0 i; results = read i }
+  results_read (Err refusal) memory r = sym r.0

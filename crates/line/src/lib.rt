@@ -16,22 +16,21 @@ use std::io::Write;
 pub fn respond(input: &[u8], out: &mut [u8; 86058]) -> usize
     ensures { LineOutcome input.now out.old result out.new }
 {
-    let mut results = request::space();
+    let mut results = request::space::<u32, 4096>();
     let reply = request::request(input, &mut results);
-    let answer = reply.answer;
-    put_line(out, answer, &results, reply.count)
+    put_line(out, Answer::from(reply), &results[..reply.unwrap_or(0)])
 }
 
 // Writes the line that answers the request, at once.
 pub fn print<W: Write>(to: &mut W, input: &[u8]) -> io::Result<()>
     ensures { OnOk result (Appends (W.contents to.old) (W.contents to.new) (line (printed input.now))) }
 {
-    let mut out = space();
+    let mut out = request::space::<u8, 86058>();
     let start = respond(input, &mut out);
     write_from(to, &out, start)
 }
 
-// Writes what stands from a place on.
+// Writes what stands from a place on: the place that `respond` answers.
 pub fn write_from<W: Write>(to: &mut W, text: &[u8], start: usize) -> io::Result<()>
     requires { start ≤ length text.now }
     ensures { OnOk result (Appends (W.contents to.old) (W.contents to.new) (drop start text.now)) }
@@ -39,44 +38,29 @@ pub fn write_from<W: Write>(to: &mut W, text: &[u8], start: usize) -> io::Result
     to.write_all(&text[start..])
 }
 
-// Zeros, behind a contract that says only how many: memory for a line.
-fn space() -> [u8; 86058]
-    ensures { 86058 ≡ length result }
-{
-    [0; 86058]
-}
-
-// Writes the whole line, of the first `count` results, at the end of out.
-pub fn put_line(out: &mut [u8], answer: Answer, results: &[u32], count: usize) -> usize
-    requires { (count ≤ length results.now) × (42 + 21 * count ≤ length out.old) }
-    ensures { Stands (line (record { answer = answer; results = take count results.now })) (length out.old) out.old
+// Writes the whole line at the end of out.
+pub fn put_line(out: &mut [u8], answer: Answer, results: &[u32]) -> usize
+    requires { 42 + 21 * length results.now ≤ length out.old }
+    ensures { Stands (line (record { answer = answer; results = results.now })) (length out.old) out.old
         result out.new }
 {
     let last = out.len() - 1;
     out[last] = 10;
-    let behind = put_results(out, last, &results[..count]);
+    let behind = put_results(out, last, results);
     let place = put_spaced(out, behind, answer.place as u64);
-    put_decimal(out, place, answer.number as u64)
+    put_decimal(out, place, u64::from(answer.number))
 }
 
-// Writes the results in front of place p, each with a space in front of it.
+// Writes the results in front of place p, each with a space in front of it. A place and not a shorter slice, since the answer is the place.
 fn put_results(out: &mut [u8], p: usize, results: &[u32]) -> usize
     requires { (41 + 21 * length results.now ≤ p) × (p ≤ length out.old) }
     ensures { Stands (spaced results.now) p out.old result out.new }
 {
     let mut q = p;
-    let mut i = results.len();
-    while 0 < i {
-        i -= 1;
-        q = put_spaced(out, q, wide(results[i]));
+    for &result in results.iter().rev() {
+        q = put_spaced(out, q, u64::from(result));
     }
     q
-}
-
-fn wide(v: u32) -> u64
-    ensures { result ≡ v }
-{
-    v as u64
 }
 
 // Writes v in decimal in front of place p, with a space in front of it.
@@ -89,7 +73,8 @@ fn put_spaced(out: &mut [u8], p: usize, v: u64) -> usize
     q
 }
 
-// Writes v in decimal in front of place p.
+// Writes v in decimal in front of place p. By hand, since the line stands at the end of what is lent: `Display` writes from the start on.
+// A `while`, since the number of digits is known once they are written.
 fn put_decimal(out: &mut [u8], p: usize, v: u64) -> usize
     requires { (20 ≤ p) × (p ≤ length out.old) }
     ensures { Stands (decimal v) p out.old result out.new }
@@ -99,7 +84,7 @@ fn put_decimal(out: &mut [u8], p: usize, v: u64) -> usize
     while 10 <= rest {
         q -= 1;
         out[q] = (48 + rest % 10) as u8;
-        rest = rest / 10;
+        rest /= 10;
     }
     q -= 1;
     out[q] = (48 + rest) as u8;

@@ -66,7 +66,7 @@ pub extern "C" fn fdr_modular_reverse(buf: &mut [u32]) -> Answer
 pub extern "C" fn fdr_house_row(row: u32) -> Yielded
     ensures { SettingOutcome row result.answer result.setting }
 {
-    house::setting_of(row)
+    Yielded::from(house::setting_of(row))
 }
 
 // A table filled from a setting: 2, 3, 4.

@@ -1,22 +1,28 @@
 // Acceptance of a lent table, alone.
+ghost use Rattle.std.specs.Prelude.{◌≡◌};
+ghost use Rattle.answer.specs.Choice.{answered};
+ghost use Rattle.modular_judgement.specs.Verdicts.{accept_verdict};
 ghost use Rattle.modular.specs.Outcomes.{AcceptOutcome};
 
-use answer::{Answer, Found};
+use answer::{Answer, Refusal};
 use residues::Modulus;
 
 // Whether the table is accepted modulo m: 2, 3, 4. N follows from the table's length.
 pub fn accept(m: u32, table: &[u32]) -> Answer
     ensures { AcceptOutcome m table.now result }
 {
-    if !residues::permitted(m) {
-        return answer::MODULUS;
+    Answer::from(try_accept(m, table))
+}
+
+// The same, with the refusal as it is. Beside the acceptance in fixed point, which has other lengths and no modulus.
+#[tactic(auto, using(crate::proofs::Passing::some_entry, modular_judgement::proofs::Tests::short), unfolding(modular_judgement::specs::Verdicts::accept_verdict))]
+fn try_accept(m: u32, table: &[u32]) -> Result<(), Refusal>
+    ensures { answered result ≡ accept_verdict m table.now }
+{
+    let m = Modulus::try_from(m)?;
+    answer::table_log(table.len()).ok_or(Refusal::TableLength)?;
+    match residue_tables::judge_table(table, m) {
+        Some(place) => Err(Refusal::Entry(place)),
+        None => Ok(()),
     }
-    if answer::table_log(table.len()) == 0 {
-        return answer::TABLE_LENGTH;
-    }
-    let entry = residue_tables::judge_table(table, Modulus { value: m });
-    if let Found::At(place) = entry {
-        return Answer { number: 4, place };
-    }
-    answer::DONE
 }

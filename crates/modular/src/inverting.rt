@@ -1,31 +1,41 @@
 // The inverse, and bit reversal.
+ghost use Rattle.answer.specs.Choice.{answered};
 ghost use Rattle.modular.specs.Outcomes.{InverseOutcome, ReverseOutcome};
 
-use answer::Answer;
+use answer::{Answer, Refusal};
+use butterflies::Residues;
 use modular_judgement::judge_inverse;
-use residues::Modulus;
 
 // The samples, in order, of which buf holds the sums as schedules 1, 2, 3 and 5 leave them, with the forward table: 1, 2, 3, 4, 5.
 pub fn inverse(buf: &mut [u32], m: u32, table: &[u32]) -> Answer
     ensures { InverseOutcome buf.old m table.now result buf.new }
 {
-    let verdict = judge_inverse(&buf[..], m, table);
-    if verdict.number != 0 {
-        return verdict;
-    }
-    let n = answer::log_of(buf.len());
-    runs::invert(buf, table, Modulus { value: m }, n);
-    verdict
+    Answer::from(try_inverse(buf, m, table))
+}
+
+// The same, with the refusal as it is.
+fn try_inverse(buf: &mut [u32], m: u32, table: &[u32]) -> Result<(), Refusal>
+    ensures { InverseOutcome buf.old m table.now (answered result) buf.new }
+{
+    let (n, roots) = judge_inverse(buf, m, table)?;
+    runs::invert(buf, roots, n);
+    Ok(())
 }
 
 // buf with its places in reversed order: 1.
 pub fn reverse(buf: &mut [u32]) -> Answer
     ensures { ReverseOutcome buf.old result buf.new }
 {
-    let n = answer::log_of(buf.len());
-    if n == 0 {
-        return answer::LENGTH;
-    }
-    reversal::reverse(buf, n);
-    answer::DONE
+    Answer::from(try_reverse(buf))
+}
+
+// The same, with the refusal as it is.
+// Beside the reversal in fixed point, where an odd number of numbers is no buffer.
+#[tactic(auto, using(modular_judgement::proofs::Tests::short), unfolding(modular_judgement::specs::Verdicts::reverse_verdict))]
+fn try_reverse(buf: &mut [u32]) -> Result<(), Refusal>
+    ensures { ReverseOutcome buf.old (answered result) buf.new }
+{
+    let n = answer::log_of(buf.len()).ok_or(Refusal::Length)?;
+    reversal::reverse::<Residues>(buf, n);
+    Ok(())
 }

@@ -1,4 +1,5 @@
-// The public calls over residues. Each tests everything that it is lent, in document 01's order, and only then works.
+// The public calls over residues. Each tests everything that it is lent, in document 01's order, and only then works. Schedules, stages and
+// moduli are numbers here, one parameter each, since so C gives them; the judgement makes types of them.
 #![tactic(auto)]
 
 mod accepting;
@@ -9,4 +10,4 @@ mod transforming;
 pub use accepting::accept;
 pub use inverting::{inverse, reverse};
 pub use staging::stage;
-pub use transforming::transform;
+pub use transforming::{transform, try_transform};

@@ -1,10 +1,10 @@
 // The whole transform.
+ghost use Rattle.answer.specs.Choice.{answered};
 ghost use Rattle.modular.specs.Outcomes.{TransformOutcome};
 
-use answer::Answer;
+use answer::{Answer, Refusal};
 use modular_judgement::judge_transform;
 use modular_work::do_schedule;
-use residues::Modulus;
 
 // The transform of buf by the schedule, with the table modulo m: 7, 1, 2, 6, 3, 4, 5.
 pub fn transform(
@@ -17,11 +17,21 @@ pub fn transform(
     ensures { TransformOutcome schedule buf.old m table.now scratch.old
         result buf.new scratch.new }
 {
-    let verdict = judge_transform(schedule, &buf[..], m, table, scratch.len());
-    if verdict.number != 0 {
-        return verdict;
-    }
-    let n = answer::log_of(buf.len());
-    do_schedule(schedule, buf, table, Modulus { value: m }, n, scratch);
-    verdict
+    Answer::from(try_transform(schedule, buf, m, table, scratch))
+}
+
+// The same, with the refusal as it is.
+pub fn try_transform(
+    schedule: u32,
+    buf: &mut [u32],
+    m: u32,
+    table: &[u32],
+    scratch: &mut [u32],
+) -> Result<(), Refusal>
+    ensures { TransformOutcome schedule buf.old m table.now scratch.old
+        (answered result) buf.new scratch.new }
+{
+    let (schedule, n, roots) = judge_transform(schedule, buf, m, table, scratch.len())?;
+    do_schedule(schedule, buf, roots, n, scratch);
+    Ok(())
 }

@@ -1,27 +1,18 @@
--- What the tests of a call tell.
-use Prim.Native.Nat.{ℕ, ◌/◌, ◌≤◌}
-use mathlib.Core.Path.{◌≡◌, sym, ◌∙◌}
-use mathlib.Core.Bool.{Bool, true, false}
-use native.Mathlib.Omega.{arith}
-use borrow.Author.Tests.{lt-ltb, le-ltb, ltb-true}
-use Rattle.answer.specs.Lengths.{log_of}
-use Rattle.answer.proofs.Lengths.{permitted_range}
+-- What the logarithm of a length tells.
+use Rattle.std.specs.Prelude.{ℕ, ◌/◌, ◌≤◌, ◌≡◌, true, false, Some, None}
+use Rattle.std.proofs.Common.{arith, lt-ltb, le-ltb}
+use Rattle.answer.specs.Lengths.{log_of, exponent_of}
+use Rattle.answer.proofs.Lengths.{log_some, log_none, permitted_range}
 use Rattle.modular_judgement.specs.Verdicts.{permitted_length}
 
--- `if !test(..)`, passed over and entered.
-pub passed : {b r : Bool} → r ≡ b → r ≡ true → b ≡ true
-passed e t = sym e ∙ t
+-- Of a permitted length.
+pub long : (N n : ℕ) → Some n ≡ exponent_of N → (permitted_length N ≡ true) × (log_of N ≡ n) × (1 ≤ N / 2) × (N ≤ 4096)
+long N n e =
+    let r = log_some (log_of N) n e in
+    let low : 1 ≤ log_of N = omega arith in
+    let range = permitted_range N low in
+    (lt-ltb 0 (log_of N) low, r.0, omega arith, omega arith)
 
-pub failed : {b r : Bool} → r ≡ b → r ≡ false → b ≡ false
-failed e t = sym e ∙ t
-
--- `if log_of(N) == 0`, passed over.
-pub long : (N : ℕ) {r : ℕ} → r ≡ log_of N → (r ≡ 0 → ⊥) → permitted_length N ≡ true
-long N e h = lt-ltb 0 (log_of N) (omega arith)
-
--- The same, entered.
-pub short : (N : ℕ) {r : ℕ} → r ≡ log_of N → r ≡ 0 → permitted_length N ≡ false
-short N e h = le-ltb 0 (log_of N) (omega arith)
-
-pub long_half : (N : ℕ) → permitted_length N ≡ true → 1 ≤ N / 2
-long_half N e = let range = permitted_range N (ltb-true 0 (log_of N) e) in omega arith
+-- Of another.
+pub short : (N : ℕ) → None ≡ exponent_of N → permitted_length N ≡ false
+short N e = let z = log_none (log_of N) e in le-ltb 0 (log_of N) (omega arith)

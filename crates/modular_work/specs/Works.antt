@@ -2,7 +2,7 @@
 use Rattle.std.specs.Prelude.{ℕ, cond, List, length, eqb}
 use Rattle.fourier.specs.Schedules.{Buffer, Stage, columns, shuffle, schedule1, schedule2, schedule3, schedule4, schedule5}
 use Rattle.fourier.specs.Numbers.{frequency_mod, time_mod}
-use Rattle.shuffles.specs.Stages.{zeros}
+use Rattle.stages.specs.Laws.{zeros}
 use Rattle.modular_judgement.specs.Verdicts.{through_scratch}
 
 -- What the schedule leaves of N = 2^n data, with a table of h = N/2 entries.
@@ -20,4 +20,4 @@ stage_of schedule n s = cond (eqb schedule 1) (columns n s) (shuffle n s)
 
 -- Scratch "is all zeros after success. Elsewhere it is neither tested nor touched".
 unfoldable pub cleared : ℕ → List ℕ → List ℕ
-cleared schedule scratch = cond (through_scratch schedule) (zeros (length scratch)) scratch
+cleared schedule scratch = cond (through_scratch schedule) (zeros 0 (length scratch)) scratch

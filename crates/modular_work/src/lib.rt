@@ -1,72 +1,64 @@
-// The work of the calls over residues, on what was judged.
+// The work of the calls over residues, on what was judged. n stands beside the table, since it is the data's as well.
 #![tactic(auto)]
 
 ghost use Rattle.std.specs.Prelude.{true, ◌≡◌, ◌-◌, ◌^◌, ◌≤◌, ◌<◌, length};
 ghost use Rattle.answer.specs.Lists.{at, tabulate};
 ghost use Rattle.fourier.specs.Schedules.{step};
 ghost use Rattle.fourier.specs.Numbers.{frequency_mod};
-ghost use Rattle.residues.specs.Judgement.{Judged};
+ghost use Rattle.residues.specs.Judgement.{Below};
+ghost use Rattle.modular_judgement.specs.Schedules.{number_of, single_number};
 ghost use Rattle.modular_judgement.specs.Verdicts.{scratch_fits};
 ghost use Rattle.modular_work.specs.Works.{by_schedule, cleared, stage_of};
 
-use butterflies::Way;
-use residues::Modulus;
+use butterflies::{Frequency, Residues, Time};
+use counting::{Multiples, Reversals};
+use modular_judgement::{Schedule, Single};
+use residues::Roots;
 
-// All n stages of the schedule.
-pub fn do_schedule(
-    schedule: u32,
-    buf: &mut [u32],
-    table: &[u32],
-    m: Modulus,
-    n: usize,
-    scratch: &mut [u32],
-)
-    requires judged { Judged m.value table.now buf.old }
-    requires le_n { (1 ≤ n) × (length buf.old ≡ 2 ^ n) × (length table.now ≡ 2 ^ (n - 1)) }
-    requires le_schedule { (1 ≤ schedule) × (schedule ≤ 5) × (scratch_fits schedule (length scratch.old) (length buf.old) ≡ true) }
+// All n stages of the schedule: one of five, over residues. In fixed point there are three, so each carrier has its own match.
+pub fn do_schedule(schedule: Schedule, buf: &mut [u32], roots: Roots, n: usize, scratch: &mut [u32])
+    requires below { Below roots.modulus.value buf.old }
+    requires le_n { (1 ≤ n) × (length buf.old ≡ 2 ^ n) × (length roots.table.now ≡ 2 ^ (n - 1)) }
+    requires scratch_len { scratch_fits (number_of schedule) (length scratch.old) (length buf.old) ≡ true }
     ensures buf_after { buf.new ≡ tabulate (length buf.old)
-        (by_schedule schedule n m.value (length table.now) (at table.now) (at buf.old)) }
-    ensures scratch_after { scratch.new ≡ cleared schedule scratch.old }
+        (by_schedule (number_of schedule) n roots.entry.modulus.value (length roots.entry.table.now) (at roots.entry.table.now) (at buf.old)) }
+    ensures scratch_after { scratch.new ≡ cleared (number_of schedule) scratch.old }
 {
-    if schedule == 1 {
-        runs::by_columns(buf, table, m, n);
-        return;
+    match schedule {
+        Schedule::Columns => stages::by_columns::<Residues, _>(buf, Frequency(roots), n),
+        Schedule::Shuffle => stages::by_turns::<Residues, _, Multiples>(
+            buf,
+            scratch,
+            Frequency(roots),
+            n,
+        ),
+        Schedule::Halves => stages::by_halves::<Residues, _>(buf, Frequency(roots), 1),
+        Schedule::Thong => stages::by_thong::<Residues, _>(buf, Time(roots), n),
+        Schedule::Pease => stages::by_turns::<Residues, _, Reversals>(buf, scratch, Time(roots), n),
     }
-    if schedule == 2 {
-        shuffles::by_shuffle(buf, scratch, table, m, n);
-        return;
-    }
-    if schedule == 3 {
-        runs::by_halves(buf, table, m, 1);
-        return;
-    }
-    if schedule == 4 {
-        runs::by_thong(buf, table, m, Way::Time, n);
-        return;
-    }
-    shuffles::by_pease(buf, scratch, table, m, n);
 }
 
 // Stage s of schedule 1 or 2.
 pub fn do_stage(
-    schedule: u32,
+    schedule: Single,
     s: usize,
     buf: &mut [u32],
-    table: &[u32],
-    m: Modulus,
+    roots: Roots,
     n: usize,
     scratch: &mut [u32],
 )
-    requires judged { Judged m.value table.now buf.old }
-    requires s_lt_n { (s < n) × (length buf.old ≡ 2 ^ n) × (length table.now ≡ 2 ^ (n - 1)) }
-    requires le_schedule { (1 ≤ schedule) × (schedule ≤ 2) × (scratch_fits schedule (length scratch.old) (length buf.old) ≡ true) }
+    requires below { Below roots.modulus.value buf.old }
+    requires s_lt_n { (s < n) × (length buf.old ≡ 2 ^ n) × (length roots.table.now ≡ 2 ^ (n - 1)) }
+    requires scratch_len { scratch_fits (single_number schedule) (length scratch.old) (length buf.old) ≡ true }
     ensures buf_after { buf.new ≡ tabulate (length buf.old)
-        (step (frequency_mod m.value (length table.now) (at table.now)) (stage_of schedule n s) (at buf.old)) }
-    ensures scratch_after { scratch.new ≡ cleared schedule scratch.old }
+        (step (frequency_mod roots.entry.modulus.value (length roots.entry.table.now) (at roots.entry.table.now)) (stage_of (single_number schedule) n s) (at buf.old)) }
+    ensures scratch_after { scratch.new ≡ cleared (single_number schedule) scratch.old }
 {
-    if schedule == 1 {
-        runs::column_stage(buf, table, m, n, s);
-        return;
+    let by = Frequency(roots);
+    match schedule {
+        Single::Columns => stages::column_stage::<Residues, _>(buf, by, n, s),
+        Single::Shuffle => stages::through_scratch::<Residues, _, Multiples>(
+            buf, scratch, by, n, s,
+        ),
     }
-    shuffles::single(buf, scratch, table, m, n, s);
 }

@@ -2,14 +2,14 @@
 use Prim.Native.Nat.{ℕ, suc, ◌+◌, ◌-◌, ◌<◌, ◌≤◌}
 use mathlib.Core.Path.{◌≡◌, refl, ◌∙◌}
 use mathlib.Core.List.{List}
+use Rattle.std.proofs.Common.{Ok, Err}
 use native.Mathlib.Nat.{sub-zero}
 use native.Mathlib.Numerals.{add-one}
 use native.Mathlib.Omega.{arith}
 use lib.ListN.{length, set, length-set}
 use lib.Seq.{sets}
-use Rattle.groups.specs.declared.Number.TheVariants.{Value, Fault}
+use Rattle.groups.specs.declared.Fault.{Fault}
 use Rattle.groups.specs.Groups.{number_at}
-use Rattle.reading.specs.declared.Many.TheVariants.{All, Broken}
 use Rattle.reading.specs.Requests.{behind, many_at, and_behind, values_at}
 
 -- Of the numbers that fill out₀ from its start, those that stand from place next of s on are left to be put into out from i on.
@@ -27,7 +27,7 @@ module _ {s : List ℕ} {p : ℕ} {out₀ out : List ℕ} {next i : ℕ} (r : Fi
     none : length out₀ - i ≡ 0
     none = omega (arith, r.long)
 
-    pub filling_all : many_at (length out₀) s p ≡ All next
+    pub filling_all : many_at (length out₀) s p ≡ Ok next
     unfolding many_at
     filling_all = rw none at r.rest
 
@@ -40,7 +40,7 @@ module _ {s : List ℕ} {p : ℕ} {out₀ out : List ℕ} {next i : ℕ} (r : Fi
     one = omega (arith, r.long)
 
     -- One more is read.
-    pub filling_more : {v q : ℕ} → number_at s next ≡ Value v q → Filling s p out₀ (set out i v) q (i + 1)
+    pub filling_more : {v q : ℕ} → number_at s next ≡ Ok (v, q) → Filling s p out₀ (set out i v) q (i + 1)
     unfolding many_at behind values_at and_behind
     filling_more {v} {q} e = record {
       long = length-set out i v ∙ r.long;
@@ -49,8 +49,8 @@ module _ {s : List ℕ} {p : ℕ} {out₀ out : List ℕ} {next i : ℕ} (r : Fi
     }
 
     -- A fault ends it.
-    module _ {place : ℕ} (e : number_at s next ≡ Fault place) where
-      pub filling_broken : many_at (length out₀) s p ≡ Broken place
+    module _ {fault : Fault} (e : number_at s next ≡ Err fault) where
+      pub filling_broken : many_at (length out₀) s p ≡ Err fault
       unfolding many_at behind
       filling_broken = rw (one, e) at r.rest
 

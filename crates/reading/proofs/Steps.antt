@@ -8,17 +8,16 @@ use native.Mathlib.Omega.{arith}
 use lib.ListN.{length, drop}
 use lib.Seq.{sets, sets-eq, drop-length}
 use borrow.Author.Tests.{le-leb, lt-leb}
-use Rattle.answer.specs.declared.Answer.{Answer}
-use Rattle.answer.specs.Choice.{refuse_at, done_left}
-use Rattle.modular_judgement.specs.Verdicts.{offers, permitted_length, transform_verdict}
-use Rattle.modular.specs.Outcomes.{TransformOutcome}
-use Rattle.reading.specs.declared.Many.TheVariants.{All, Broken}
-use Rattle.reading.specs.Requests.{Printed, many_at, values_at, refused, judged, with_both, with_table, with_head}
+use Rattle.answer.specs.declared.Refusal.{Refusal}
+use Rattle.answer.specs.Choice.{refuse_at, done, answer_of, answered, if_done, refused_left}
+use Rattle.modular_judgement.specs.Verdicts.{offers, permitted_length}
+use Rattle.modular.specs.Outcomes.{transformed, TransformOutcome}
+use Rattle.std.proofs.Common.{Result, Ok, Err}
+use Rattle.groups.specs.declared.Fault.{Fault}
+use Rattle.reading.specs.Requests.{many_at, values_at, refused, judged, with_both, with_table, with_head, Prints}
+use Rattle.reading.specs.Refusals.{refusal_named}
 use Rattle.reading.specs.Theorems.{values_whole}
 use Rattle.reading.proofs.Theorems.{both_judged}
-
-abbrev pub answered : Printed → Answer
-answered r = r.answer
 
 -- ---- several numbers
 
@@ -32,11 +31,11 @@ sets_whole l vs e = sets_front l vs (length l) e (omega arith) ∙ rw drop-lengt
 -- ---- the table, the samples, and both
 
 module _ (s : List ℕ) (m schedule N : ℕ) (table : List ℕ) (q : ℕ) where
-  pub samples_broken : {p : ℕ} → many_at N s q ≡ Broken p → with_table s m schedule N table q ≡ refused (refuse_at 10 p)
+  pub samples_broken : {fault : Fault} → many_at N s q ≡ Err fault → with_table s m schedule N table q ≡ refused (refuse_at 10 fault.place)
   unfolding with_table
   samples_broken e = rw e
 
-  module _ {end : ℕ} (e : many_at N s q ≡ All end) where
+  module _ {end : ℕ} (e : many_at N s q ≡ Ok end) where
     pub samples_surplus : end < length s → with_table s m schedule N table q ≡ refused (refuse_at 10 end)
     unfolding with_table
     samples_surplus h = simp (e, lt-leb (length s) end h)
@@ -45,33 +44,36 @@ module _ (s : List ℕ) (m schedule N : ℕ) (table : List ℕ) (q : ℕ) where
     unfolding with_table
     samples-whole h = simp (e, le-leb (length s) end h)
 
+-- A table and samples that are there, by what the transform answers of them and leaves.
+both_printed : (m schedule : ℕ) (table samples old : List ℕ) {left : List ℕ} (r : Result (Unit {0}) Refusal) → answered r ≡ judged m table samples →
+    left ≡ if_done (answered r) (transformed schedule samples m table) old → Prints (with_both m schedule table samples) left r
+both_printed m schedule table samples old (Ok x) e l = rw (← e) (λ i. record { answer = done; results = sym l i })
+both_printed m schedule table samples old (Err refusal) e l =
+    let none = refused_left (answer_of refusal) (transformed schedule samples m table) [] (refusal_named refusal) in
+    rw (← e) (λ i. record { answer = answer_of refusal; results = none i })
+
 -- What the transform answers and leaves of the samples is what is printed.
-pub samples-transformed : (s : List ℕ) (m schedule : ℕ) (table : List ℕ) (q : ℕ) (samples : List ℕ) {end : ℕ} {read scratch samples' scratch' : List ℕ} {answer : Answer} →
-    offers schedule ≡ true → permitted_length (length samples) ≡ true → length table ≡ length samples / 2 → length scratch ≡ length samples →
-    many_at (length samples) s q ≡ All end → length s ≤ end → read ≡ sets samples 0 (values_at (length samples) s q) → TransformOutcome schedule read m table scratch answer samples' scratch' →
-    (answer ≡ (with_table s m schedule (length samples) table q).answer) × (answer.number ≡ 0 → samples' ≡ (with_table s m schedule (length samples) table q).results)
-samples-transformed s m schedule table q samples {read = read} {scratch} {samples'} {answer = answer} offer long half room many end e out =
-    let long-values = values_whole (length samples) s q _ many in
-    let is : read ≡ values_at (length samples) s q = e ∙ sets_whole samples _ long-values in
-    let verdict : answer ≡ judged m table (values_at (length samples) s q) =
-    rw is at out.answers ∙ both_judged m schedule table _ (length scratch) offer (rw long-values long) (rw long-values half) (rw long-values room) in
-    rw (samples-whole s m schedule (length samples) table q many end) (
-      verdict,
-      λ z.
-          rw is at (out.leaves ∙ done_left (transform_verdict schedule read m table (length scratch)) _ read (rw out.answers at z))
-          ∙ sym (done_left (judged m table (values_at (length samples) s q)) _ [] (rw verdict at z)),
-    )
+pub samples_transformed : (s : List ℕ) (m schedule : ℕ) (table : List ℕ) (q : ℕ) (samples : List ℕ) {end : ℕ} {read scratch samples' scratch' : List ℕ} (r : Result (Unit {0}) Refusal) →
+    offers schedule ≡ true → permitted_length (length samples) ≡ true → length table ≡ length samples / 2 → length scratch ≡ length samples → many_at (length samples) s q ≡ Ok end →
+    length s ≤ end → read ≡ sets samples 0 (values_at (length samples) s q) → TransformOutcome schedule read m table scratch (answered r) samples' scratch' →
+    Prints (with_table s m schedule (length samples) table q) samples' r
+samples_transformed s m schedule table q samples {read = read} {scratch} {samples'} r offer long half room many ends e out =
+    let values = values_at (length samples) s q in
+    let size = values_whole (length samples) s q _ many in
+    let is : read ≡ values = e ∙ sets_whole samples values size in
+    let verdict = both_judged m schedule table values (length scratch) offer (rw size long) (rw size half) (rw size room) in
+    let left : samples' ≡ if_done (answered r) (transformed schedule values m table) read = rw (← is, out.answers) out.leaves in
+    rw (samples-whole s m schedule (length samples) table q many ends) (both_printed m schedule table values read r (rw is at out.answers ∙ verdict) left)
 
 module _ (s : List ℕ) (m schedule p : ℕ) (table samples : List ℕ) (half : length table ≡ length samples / 2) where
-  pub table_broken : {place : ℕ} → many_at (length table) s p ≡ Broken place → with_head s m schedule (length samples) p ≡ refused (refuse_at 10 place)
+  pub table_broken : {fault : Fault} → many_at (length table) s p ≡ Err fault → with_head s m schedule (length samples) p ≡ refused (refuse_at 10 fault.place)
   unfolding with_head
   table_broken many = rw (rw half at many)
 
   -- The table is read, and the samples decide the rest.
-  pub table-whole : {q : ℕ} {read samples' : List ℕ} {answer : Answer} → many_at (length table) s p ≡ All q → read ≡ sets table 0 (values_at (length table) s p) →
-      (answer ≡ (with_table s m schedule (length samples) read q).answer) × (answer.number ≡ 0 → samples' ≡ (with_table s m schedule (length samples) read q).results) →
-      (answer ≡ (with_head s m schedule (length samples) p).answer) × (answer.number ≡ 0 → samples' ≡ (with_head s m schedule (length samples) p).results)
+  pub table-whole : {q : ℕ} {read : List ℕ} → many_at (length table) s p ≡ Ok q → read ≡ sets table 0 (values_at (length table) s p) →
+      with_head s m schedule (length samples) p ≡ with_table s m schedule (length samples) read q
   unfolding with_head
-  table-whole {samples' = samples'} {answer} many e out =
+  table-whole many e =
       let is = e ∙ sets_whole table (values_at (length table) s p) (values_whole (length table) s p _ many) in
-      rw (rw half at many) (rw (is, half) at out)
+      rw (rw half at many, is, half)

@@ -1,34 +1,36 @@
 -- What `dft` answers, as a function of its input's bytes: document 01's "The program".
-use Rattle.std.specs.Prelude.{ℕ, zero, suc, ◌/◌, Bool, true, false, List, [], ◌∷◌, length, leb}
+use Rattle.std.specs.Prelude.{ℕ, zero, suc, ◌/◌, ◌≡◌, Bool, true, false, List, [], ◌∷◌, length, leb, Result, Ok, Err}
 use Rattle.answer.specs.declared.Answer.{Answer}
-use Rattle.answer.specs.Choice.{refuse, refuse_at, done, unless, judged_at, if_done}
+use Rattle.answer.specs.declared.Refusal.{Refusal}
+use Rattle.answer.specs.Choice.{answer_of, refuse, refuse_at, done, unless, judged_at, if_done}
 use Rattle.answer.specs.Lists.{at}
-use Rattle.groups.specs.declared.Number.{Number}
-use Rattle.groups.specs.declared.Number.TheVariants.{Value, Fault}
-use Rattle.groups.specs.Groups.{number_at}
+use Rattle.groups.specs.declared.Fault.{Fault}
+use Rattle.groups.specs.Groups.{Number, number_at}
 use Rattle.residues.specs.Moduli.{permits}
 use Rattle.residues.specs.Judgement.{bad_entry, bad_sample}
 use Rattle.modular_judgement.specs.Verdicts.{offers, permitted_length}
 use Rattle.modular.specs.Outcomes.{transformed}
-use Rattle.reading.specs.declared.Many.{Many}
-use Rattle.reading.specs.declared.Many.TheVariants.{All, Broken}
 
 -- ---- several numbers
 
+-- The place behind the last of several numbers, or the first fault.
+abbrev pub Many : Type 0
+Many = Result ℕ Fault
+
 -- On behind a number; a fault ends it.
 unfoldable pub behind : Number → (ℕ → Many) → Many
-behind (Value v q) next = next q
-behind (Fault p) next = Broken p
+behind (Ok number) next = next number.1
+behind (Err fault) next = Err fault
 
 -- n numbers, one behind the other, from place p on: the place behind the last, or that of the first fault.
 unfoldable pub many_at : ℕ → List ℕ → ℕ → Many
-many_at zero s p = All p
+many_at zero s p = Ok p
 many_at (suc n) s p = behind (number_at s p) (many_at n s)
 
 -- A number and those behind it; none from a fault on.
 unfoldable pub and_behind : Number → (ℕ → List ℕ) → List ℕ
-and_behind (Value v q) next = v ∷ next q
-and_behind (Fault p) next = []
+and_behind (Ok number) next = number.0 ∷ next number.1
+and_behind (Err fault) next = []
 
 -- Their values: n of them where none is at fault (`values_whole`).
 unfoldable pub values_at : ℕ → List ℕ → ℕ → List ℕ
@@ -52,8 +54,8 @@ refused_unless false refusal next = refused refusal
 
 -- On behind several numbers; the first fault decides, 10 at its place.
 abbrev pub follow : Many → (ℕ → Printed) → Printed
-follow (All q) next = next q
-follow (Broken p) next = refused (refuse_at 10 p)
+follow (Ok q) next = next q
+follow (Err fault) next = refused (refuse_at 10 fault.place)
 
 -- "Then 2, 4 and 5 follow."
 unfoldable pub judged : ℕ → List ℕ → List ℕ → Answer
@@ -88,3 +90,10 @@ asked s m schedule N p =
 -- "They are m, schedule, N, the table, the samples."
 unfoldable pub printed : List ℕ → Printed
 printed s = let head = values_at 3 s 0 in follow (many_at 3 s 0) (asked s (at head 0) (at head 1) (at head 2))
+
+-- ---- what a call answers of it
+
+-- Done, with the results that are left, or refused.
+abbrev pub Prints : Printed → List ℕ → Result (Unit {0}) Refusal → Type 0
+Prints what left (Ok x) = what ≡ record { answer = done; results = left }
+Prints what left (Err refusal) = what ≡ refused (answer_of refusal)

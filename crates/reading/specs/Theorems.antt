@@ -1,7 +1,7 @@
 -- What holds of whatever `dft` prints, and what can matter of its input: the first 30,736 bytes. 6,147 numbers take
 -- at most 30,735 bytes, and the one behind them is a surplus byte.
 use Prim.Native.Nat.{ℕ, zero, suc, ◌+◌, ◌*◌, ◌/◌, ◌<◌, ◌≤◌}
-use Rattle.std.specs.Prelude.{◌≡◌, Bool, true, false, cond, take, leb, eqb}
+use Rattle.std.specs.Prelude.{◌≡◌, Bool, true, false, cond, take, leb, eqb, Ok, Err}
 use Rattle.std.proofs.Math.Path.{refl, ap}
 use Rattle.std.proofs.Common.{arith}
 use mathlib.Core.List.{List, [], ◌∷◌}
@@ -13,45 +13,41 @@ use Rattle.answer.specs.Choice.{refuse_at}
 use Rattle.answer.specs.Lists.{at, length-tabulate}
 use Rattle.answer.specs.Lengths.{log_of}
 use Rattle.answer.proofs.Lengths.{permitted_range}
-use Rattle.groups.specs.declared.Number.{Number}
-use Rattle.groups.specs.declared.Number.TheVariants.{Value, Fault}
-use Rattle.groups.specs.Groups.{number_at}
+use Rattle.groups.specs.Groups.{Number, number_at}
 use Rattle.groups.specs.Theorems.{clash, number_begun}
 use Rattle.groups.proofs.Theorems.{number-near}
 use Rattle.modular_judgement.specs.Verdicts.{offers, permitted_length}
 use Rattle.modular_work.specs.Works.{cleared}
 use Rattle.modular.specs.Outcomes.{transformed, TransformOutcome}
-use Rattle.reading.specs.declared.Many.{Many}
-use Rattle.reading.specs.declared.Many.TheVariants.{All, Broken}
-use Rattle.reading.specs.Requests.{behind, many_at, and_behind, values_at, Printed, refused, refused_unless, follow, judged, with_both, with_table, with_head, asked, printed}
+use Rattle.reading.specs.Requests.{Many, behind, many_at, and_behind, values_at, Printed, refused, refused_unless, follow, judged, with_both, with_table, with_head, asked, printed}
 
 -- ---- several numbers
 
 -- All n of them are there.
-pub values_whole : (n : ℕ) (s : List ℕ) (p q : ℕ) → many_at n s p ≡ All q → length (values_at n s p) ≡ n
+pub values_whole : (n : ℕ) (s : List ℕ) (p q : ℕ) → many_at n s p ≡ Ok q → length (values_at n s p) ≡ n
 unfolding many_at values_at behind and_behind
 values_whole zero s p q e = refl
 values_whole (suc n) s p q e = by (number_at s p) (values_whole n s) e
   where
-    by : (r : Number) → ((p' q' : ℕ) → many_at n s p' ≡ All q' → length (values_at n s p') ≡ n) → behind r (many_at n s) ≡ All q → length (and_behind r (values_at n s)) ≡ suc n
-    by (Value v next) ih e = ap suc (ih next q e)
-    by (Fault place) ih e = clash (cc e)
+    by : (r : Number) → ((p' q' : ℕ) → many_at n s p' ≡ Ok q' → length (values_at n s p') ≡ n) → behind r (many_at n s) ≡ Ok q → length (and_behind r (values_at n s)) ≡ suc n
+    by (Ok number) ih e = ap suc (ih number.1 q e)
+    by (Err fault) ih e = clash (cc e)
 
 -- n numbers take at most 5n bytes.
-many_near : (s : List ℕ) (n p q : ℕ) → many_at n s p ≡ All q → q ≤ p + 5 * n
+many_near : (s : List ℕ) (n p q : ℕ) → many_at n s p ≡ Ok q → q ≤ p + 5 * n
 unfolding many_at behind
 many_near s zero p q e = let same : p ≡ q = cc e in omega arith
 many_near s (suc n) p q e = by (number_at s p) refl (many_near s n) e
   where
-    by : (r : Number) → number_at s p ≡ r → ((p' q' : ℕ) → many_at n s p' ≡ All q' → q' ≤ p' + 5 * n) → behind r (many_at n s) ≡ All q → q ≤ p + 5 * suc n
-    by (Value v next) er ih e = let near = number-near s p v next er in let later = ih next q e in omega arith
-    by (Fault place) er ih e = clash (cc e)
+    by : (r : Number) → number_at s p ≡ r → ((p' q' : ℕ) → many_at n s p' ≡ Ok q' → q' ≤ p' + 5 * n) → behind r (many_at n s) ≡ Ok q → q ≤ p + 5 * suc n
+    by (Ok number) er ih e = let near = number-near s p number.0 number.1 er in let later = ih number.1 q e in omega arith
+    by (Err fault) er ih e = clash (cc e)
 
 -- ---- cases
 
-follow-same : (many : Many) (f g : ℕ → Printed) → ((q : ℕ) → many ≡ All q → f q ≡ g q) → follow many f ≡ follow many g
-follow-same (All q) f g h = h q refl
-follow-same (Broken p) f g h = refl
+follow-same : (many : Many) (f g : ℕ → Printed) → ((q : ℕ) → many ≡ Ok q → f q ≡ g q) → follow many f ≡ follow many g
+follow-same (Ok q) f g h = h q refl
+follow-same (Err fault) f g h = refl
 
 unless-same : (b : Bool) (refusal : Answer) (x y : Printed) → (b ≡ true → x ≡ y) → refused_unless b refusal x ≡ refused_unless b refusal y
 unless-same true refusal x y h = h refl
@@ -70,8 +66,8 @@ asked_size s = at (values_at 3 s 0) 2
 
 -- The table stands at p, behind the three numbers, and the samples at q, behind the table.
 pub record Placed (s : List ℕ) (p q : ℕ) : Type 0 where
-  pub head : many_at 3 s 0 ≡ All p
-  pub table : many_at (asked_size s / 2) s p ≡ All q
+  pub head : many_at 3 s 0 ≡ Ok p
+  pub table : many_at (asked_size s / 2) s p ≡ Ok q
 
 abbrev pub asked_table : List ℕ → ℕ → List ℕ
 asked_table s p = values_at (asked_size s / 2) s p
@@ -82,9 +78,9 @@ asked_samples s q = values_at (asked_size s) s q
 -- ---- what holds of every refusal, and of what follows
 
 module _ (P : Printed → Type 0) (none : (answer : Answer) → 1 ≤ answer.number → P (refused answer)) where
-  follow_every : (many : Many) (next : ℕ → Printed) → ((q : ℕ) → many ≡ All q → P (next q)) → P (follow many next)
-  follow_every (All q) next h = h q refl
-  follow_every (Broken p) next h = none (refuse_at 10 p) (omega arith)
+  follow_every : (many : Many) (next : ℕ → Printed) → ((q : ℕ) → many ≡ Ok q → P (next q)) → P (follow many next)
+  follow_every (Ok q) next h = h q refl
+  follow_every (Err fault) next h = none (refuse_at 10 fault.place) (omega arith)
 
   unless_every : (b : Bool) (refusal : Answer) (next : Printed) → 1 ≤ refusal.number → (b ≡ true → P next) → P (refused_unless b refusal next)
   unless_every true refusal next l h = h refl
@@ -92,7 +88,7 @@ module _ (P : Printed → Type 0) (none : (answer : Answer) → 1 ≤ answer.num
 
   -- And of the table and the samples that stand there, of these lengths.
   pub head_every : (s : List ℕ) (m schedule N p : ℕ) →
-      ((q : ℕ) → many_at (N / 2) s p ≡ All q → (let table = values_at (N / 2) s p in let samples = values_at N s q in
+      ((q : ℕ) → many_at (N / 2) s p ≡ Ok q → (let table = values_at (N / 2) s p in let samples = values_at N s q in
       length samples ≡ N → length table ≡ N / 2 → P (with_both m schedule table samples))) → P (with_head s m schedule N p)
   unfolding with_head with_table
   head_every s m schedule N p h =
@@ -145,8 +141,8 @@ module _ (s : List ℕ) (k : ℕ) (room : k ≤ length s) where
     where
       by : (r : Number) → number_at s p ≡ r → ((q : ℕ) → q + 5 * n ≤ k → (many_at n (take k s) q ≡ many_at n s q) × (values_at n (take k s) q ≡ values_at n s q)) →
           (behind r (many_at n (take k s)) ≡ behind r (many_at n s)) × (and_behind r (values_at n (take k s)) ≡ and_behind r (values_at n s))
-      by (Value v next) e ih = let near = number-near s p v next e in let rest = ih next (omega arith) in (rest.0, ap (λ (l : List ℕ). v ∷ l) rest.1)
-      by (Fault place) e ih = (refl, refl)
+      by (Ok number) e ih = let near = number-near s p number.0 number.1 e in let rest = ih number.1 (omega arith) in (rest.0, ap (λ (l : List ℕ). number.0 ∷ l) rest.1)
+      by (Err fault) e ih = (refl, refl)
 
   table_begun : (m schedule N : ℕ) (table : List ℕ) (q : ℕ) → q + 5 * N < k → with_table (take k s) m schedule N table q ≡ with_table s m schedule N table q
   unfolding with_table

@@ -4,38 +4,24 @@
 ghost use Rattle.std.specs.Prelude.{◌≡◌, true, ◌/◌, ◌≤◌, length, take};
 ghost use Rattle.std.proofs.lemmas.List.Edits.{sets};
 ghost use Rattle.modular_judgement.specs.Verdicts.{offers, permitted_length};
-ghost use Rattle.reading.specs.Requests.{many_at, values_at, with_table, with_head};
+ghost use Rattle.reading.specs.Requests.{many_at, values_at, with_table, with_head, Prints};
 
-use answer::Answer;
-use groups::Number;
+use answer::Refusal;
+use groups::Fault;
 
-// The place behind the last of several numbers, or the place of the first fault.
-#[derive(Clone, Copy)]
-pub enum Many {
-    All(usize),
-    Broken(usize),
-}
-
-// Fills out with the numbers of s from place p on.
-pub fn numbers(s: &[u8], p: usize, out: &mut [u32]) -> Many
+// Fills out with the numbers of s from place p on, one behind the other, and answers the place behind the last. A fault ends it; what stands
+// before it is filled in.
+pub fn numbers(s: &[u8], p: usize, out: &mut [u32]) -> Result<usize, Fault>
     ensures value { result ≡ many_at (length out.old) s.now p }
     ensures out_after { out.new ≡ sets out.old 0 (values_at (length out.old) s.now p) }
 {
     let mut next = p;
-    let mut i = 0;
-    while i < out.len() {
-        match groups::number_at(s, next) {
-            Number::Value(v, q) => {
-                out[i] = v;
-                next = q;
-                i += 1;
-            }
-            Number::Fault(place) => {
-                return Many::Broken(place);
-            }
-        }
+    for slot in out.iter_mut() {
+        let (value, behind) = groups::number_at(s, next)?;
+        *slot = value;
+        next = behind;
     }
-    Many::All(next)
+    Ok(next)
 }
 
 // Reads the samples from place q on, sees that nothing is behind them, and transforms them.
@@ -47,25 +33,16 @@ fn with_table(
     q: usize,
     samples: &mut [u32],
     scratch: &mut [u32],
-) -> Answer
+) -> Result<(), Refusal>
     requires schedule_value { (offers schedule ≡ true) × (permitted_length (length samples.old) ≡ true) }
     requires table_len { (length table.now ≡ length samples.old / 2) × (length scratch.old ≡ length samples.old) }
-    ensures value { result ≡ (with_table s.now m schedule (length samples.old) table.now q).answer }
-    ensures samples_after { result.number ≡ 0 →
-        samples.new ≡ (with_table s.now m schedule (length samples.old) table.now q).results }
+    ensures { Prints (with_table s.now m schedule (length samples.old) table.now q) samples.new result }
 {
-    match numbers(s, q, samples) {
-        Many::Broken(place) => Answer { number: 10, place },
-        Many::All(end) => {
-            if end < s.len() {
-                return Answer {
-                    number: 10,
-                    place: end,
-                };
-            }
-            modular::transform(schedule, samples, m, table, scratch)
-        }
+    let end = numbers(s, q, samples)?;
+    if end < s.len() {
+        return Err(Refusal::Request(end));
     }
+    modular::try_transform(schedule, samples, m, table, scratch)
 }
 
 // Reads the table from place p on, and goes on to the samples.
@@ -77,19 +54,17 @@ fn with_head(
     table: &mut [u32],
     samples: &mut [u32],
     scratch: &mut [u32],
-) -> Answer
+) -> Result<(), Refusal>
     requires schedule_value { (offers schedule ≡ true) × (permitted_length (length samples.old) ≡ true) }
     requires table_len { (length table.old ≡ length samples.old / 2) × (length scratch.old ≡ length samples.old) }
-    ensures value { result ≡ (with_head s.now m schedule (length samples.old) p).answer }
-    ensures samples_after { result.number ≡ 0 → samples.new ≡ (with_head s.now m schedule (length samples.old) p).results }
+    ensures { Prints (with_head s.now m schedule (length samples.old) p) samples.new result }
 {
-    match numbers(s, p, table) {
-        Many::Broken(place) => Answer { number: 10, place },
-        Many::All(q) => with_table(s, m, schedule, &table[..], q, samples, scratch),
-    }
+    let q = numbers(s, p, table)?;
+    with_table(s, m, schedule, table, q, samples, scratch)
 }
 
-// The same with memory for the longest request, of which n numbers are used.
+// The same with memory for the longest request, of which n numbers are used. One parameter each: a struct of a head and of three lent
+// buffers would be taken apart again at once. Schedule and n stay numbers, which the transform judges itself.
 pub fn within(
     s: &[u8],
     m: u32,
@@ -99,11 +74,10 @@ pub fn within(
     table: &mut [u32],
     samples: &mut [u32],
     scratch: &mut [u32],
-) -> Answer
+) -> Result<(), Refusal>
     requires schedule_value { (offers schedule ≡ true) × (permitted_length n ≡ true) }
     requires n_in_bounds { (n / 2 ≤ length table.old) × (n ≤ length samples.old) × (n ≤ length scratch.old) }
-    ensures value { result ≡ (with_head s.now m schedule n p).answer }
-    ensures samples_after { result.number ≡ 0 → take n samples.new ≡ (with_head s.now m schedule n p).results }
+    ensures { Prints (with_head s.now m schedule n p) (take n samples.new) result }
 {
     with_head(
         s,

@@ -1,30 +1,34 @@
 -- What a request is given, by what was read.
-use Prim.Native.Nat.{ℕ, ◌/◌}
-use mathlib.Core.Path.{◌≡◌, refl, sym, ◌∙◌}
+use Prim.Native.Nat.{ℕ, ◌≤◌}
+use mathlib.Core.Path.{◌≡◌, sym, ◌∙◌}
 use mathlib.Core.Bool.{true, false}
-use mathlib.Core.List.{List, []}
+use mathlib.Core.List.{List}
 use lib.ListN.{length}
 use lib.Seq.{sets}
-use Rattle.answer.specs.declared.Answer.{Answer}
-use Rattle.answer.specs.Choice.{refuse, refuse_at, refused_left}
+use Rattle.answer.specs.Choice.{refuse, refuse_at}
 use Rattle.answer.specs.Lists.{at}
+use Rattle.answer.specs.Lengths.{log_of, exponent_of}
+use Rattle.answer.proofs.Lengths.{permitted_range, log_some, log_none}
+use native.Mathlib.Omega.{arith}
+use borrow.Author.Tests.{lt-ltb, le-ltb}
 use Rattle.modular_judgement.specs.Verdicts.{offers, permitted_length}
-use Rattle.reading.specs.declared.Many.TheVariants.{All, Broken}
-use Rattle.reading.specs.Requests.{Printed, many_at, values_at, refused, judged, with_head, asked, printed}
-use Rattle.reading.specs.Theorems.{values_whole, head_every}
+use Rattle.std.proofs.Common.{Option, Some, None, Ok, Err}
+use Rattle.groups.specs.declared.Fault.{Fault}
+use Rattle.reading.specs.Requests.{many_at, values_at, refused, with_head, asked, printed}
+use Rattle.reading.specs.Theorems.{values_whole}
 use Rattle.reading.proofs.Steps.{sets_whole}
-use Rattle.request.specs.Outcomes.{Given}
 
--- A refusal has no results.
-pub given_refused : {r : Printed} {answer : Answer} {l : List ℕ} → r ≡ refused answer → Given r l answer 0 l
-given_refused e = rw e (record { answers = refl; counts = refl; leaves = refl })
+-- ---- the length
 
--- ---- refusals have no results
+-- One that has an exponent is permitted, and there is memory for it; one that has none is not.
+pub length_permitted : (N k : ℕ) {r : Option ℕ} → r ≡ exponent_of N → r ≡ Some k → (permitted_length N ≡ true) × (N ≤ 4096)
+length_permitted N k e f =
+    let log = log_some (log_of N) k (sym f ∙ e) in
+    let range = permitted_range N (omega arith) in
+    (lt-ltb 0 (log_of N) (omega arith), range.1)
 
-empty_head : (s : List ℕ) (m schedule N p : ℕ) → ((with_head s m schedule N p).answer.number ≡ 0 → ⊥) → (with_head s m schedule N p).results ≡ []
-empty_head s m schedule N p =
-    head_every (λ r. (r.answer.number ≡ 0 → ⊥) → r.results ≡ []) (λ a l z. refl)
-    s m schedule N p (λ q e long half z. refused_left (judged m (values_at (N / 2) s p) (values_at N s q)) _ [] z)
+pub length_refused : (N : ℕ) {r : Option ℕ} → r ≡ exponent_of N → r ≡ None → permitted_length N ≡ false
+length_refused N e f = let none = log_none (log_of N) (sym f ∙ e) in le-ltb 0 (log_of N) (omega arith)
 
 -- ---- the whole request
 
@@ -38,24 +42,15 @@ module _ (s : List ℕ) (m schedule N p : ℕ) where
     unfolding asked
     not_permitted h = simp (e, h)
 
-    permitted : permitted_length N ≡ true → asked s m schedule N p ≡ with_head s m schedule N p
+    pub permitted : permitted_length N ≡ true → asked s m schedule N p ≡ with_head s m schedule N p
     unfolding asked
     permitted h = simp (e, h)
 
-    module _ (h : permitted_length N ≡ true) {answer : Answer} (judgement : answer ≡ (with_head s m schedule N p).answer) where
-      pub given_none : {l : List ℕ} → (answer.number ≡ 0 → ⊥) → Given (asked s m schedule N p) l answer 0 l
-      given_none z =
-          let none = empty_head s m schedule N p (rw judgement at z) in
-          rw (permitted h) (record { answers = judgement; counts = rw none; leaves = rw none })
-
-      pub given_results : {vs l l' : List ℕ} → vs ≡ (with_head s m schedule N p).results → length vs ≡ N → l' ≡ sets l 0 vs → Given (asked s m schedule N p) l answer N l'
-      given_results is long left = rw (permitted h) (record { answers = judgement; counts = rw (← is) (sym long); leaves = rw (← is) left })
-
 module _ (s : List ℕ) where
-  pub head_broken : {place : ℕ} → many_at 3 s 0 ≡ Broken place → printed s ≡ refused (refuse_at 10 place)
+  pub head_broken : {fault : Fault} → many_at 3 s 0 ≡ Err fault → printed s ≡ refused (refuse_at 10 fault.place)
   unfolding printed
   head_broken e = rw e
 
-  pub head_whole : {p : ℕ} → many_at 3 s 0 ≡ All p → (head l : List ℕ) → length head ≡ 3 → l ≡ sets head 0 (values_at 3 s 0) → printed s ≡ asked s (at l 0) (at l 1) (at l 2) p
+  pub head_whole : {p : ℕ} → many_at 3 s 0 ≡ Ok p → (head l : List ℕ) → length head ≡ 3 → l ≡ sets head 0 (values_at 3 s 0) → printed s ≡ asked s (at l 0) (at l 1) (at l 2) p
   unfolding printed
   head_whole e head l long read = rw (e, read, sets_whole head _ (values_whole 3 s 0 _ e ∙ sym long))

@@ -1,4 +1,5 @@
 -- The rules of a table, as a loop over its entries tests them.
+use Rattle.std.specs.Prelude.{None, Some}
 use Prim.Native.Nat.{ℕ, zero, suc, ◌+◌, ◌-◌, ◌*◌, ◌%◌, ◌<◌, ◌≤◌}
 use mathlib.Core.Path.{◌≡◌, refl, sym, ◌∙◌}
 use mathlib.Core.Bool.{Bool, true, false, ◌&&◌}
@@ -11,7 +12,6 @@ use borrow.Author.Tests.{lt-ltb, le-ltb, eq-eqb, ne_eqb}
 use Rattle.answer.specs.Cases.{eq_or_ne}
 use Rattle.answer.specs.Search.{first, Passed, passed_none, passed_more}
 use Rattle.answer.proofs.Search.{first_passed, first_failed}
-use Rattle.answer.specs.declared.Found.TheVariants.{At, Nowhere}
 use Rattle.fourier.specs.Table.{root, wanted, rule}
 
 -- In front of place i: the rules hold so far, and w is what they want there.
@@ -49,8 +49,8 @@ module _ {m h : ℕ} {t : ℕ → ℕ} {w i : ℕ} (r : Reached m h t w i) where
   reached_more l k e = record { next = rw add-one; passed = passed_more r.passed (entry-rule l k ∙ eq-eqb (t i) w e) }
 
   -- How the search ends.
-  pub refused : i ≤ h → rule m h t i ≡ false → At i ≡ first (rule m h t) 0 (suc h)
+  pub refused : i ≤ h → rule m h t i ≡ false → Some i ≡ first (rule m h t) 0 (suc h)
   refused k e = sym (first_failed (record { within = omega arith; fails = e; before = r.passed }))
 
-  pub accepted : i ≡ h → rule m h t i ≡ true → Nowhere ≡ first (rule m h t) 0 (suc h)
+  pub accepted : i ≡ h → rule m h t i ≡ true → None ≡ first (rule m h t) 0 (suc h)
   accepted k e = sym (first_passed (rw (add-one, k) at (passed_more r.passed e)))

@@ -4,71 +4,57 @@
 ghost use Rattle.std.specs.Prelude.{◌≡◌, ◌-◌, ◌≤◌, eqb, length};
 ghost use Rattle.answer.specs.Lists.{at};
 ghost use Rattle.fourier.specs.Table.{root};
-ghost use Rattle.residues.specs.Moduli.{Permitted};
 ghost use Rattle.residues.specs.Judgement.{bad_entry, bad_sample};
 
-use answer::Found;
 use residues::Modulus;
 
 // The root of a table: "its second entry, or m - 1 when N = 2".
+#[tactic(auto, unfolding(fourier::specs::Table::root))]
 fn root_of(table: &[u32], m: Modulus) -> u32
-    requires permitted { Permitted m.value }
     requires in_bounds { 1 ≤ length table.now }
     ensures { result ≡ root m.value (length table.now) (at table.now) }
 {
-    if table.len() == 1 {
-        m.value - 1
-    } else {
-        table[1]
+    match table {
+        [_, x, ..] => *x,
+        _ => m.value - 1,
     }
 }
 
 // The closing rule, "the last entry times x is m - 1", of that product.
 fn closes(wanted: u32, m: Modulus) -> bool
-    requires { Permitted m.value }
     ensures { result ≡ eqb wanted (m.value - 1) }
 {
     wanted == m.value - 1
 }
 
-// Refusal 4: the first place at which a rule of the table fails, or the accepted mark.
-pub fn judge_table(table: &[u32], m: Modulus) -> Found
-    requires permitted { Permitted m.value }
+// Refusal 4: the first place at which a rule of the table fails, or none. A loop that breaks with what it found, since a table test has
+// that form here.
+pub fn judge_table(table: &[u32], m: Modulus) -> Option<usize>
     requires in_bounds { 1 ≤ length table.now }
     ensures { result ≡ bad_entry m.value table.now }
 {
     let x = root_of(table, m);
-    let mut wanted: u32 = 1;
-    let mut place = 0;
+    let mut wanted = 1;
+    let mut places = 0..table.len();
     loop {
-        if place == table.len() {
-            if closes(wanted, m) {
-                break Found::Nowhere;
+        let Some(place) = places.next() else {
+            break if closes(wanted, m) {
+                None
             } else {
-                break Found::At(table.len());
-            }
-        }
+                Some(table.len())
+            };
+        };
         let entry = table[place];
         if entry != wanted {
-            break Found::At(place);
+            break Some(place);
         }
-        wanted = residues::product(entry, x, m);
-        place += 1;
+        wanted = m.product(entry, x);
     }
 }
 
-// Refusal 5: the first place of a sample at or above m, or the accepted mark.
-pub fn judge_samples(buf: &[u32], m: Modulus) -> Found
-    ensures { result ≡ bad_sample m.value buf.now }
+// Refusal 5: the first place of a sample at or above m, for any number m.
+pub fn judge_samples(buf: &[u32], m: u32) -> Option<usize>
+    ensures { result ≡ bad_sample m buf.now }
 {
-    let mut index = 0;
-    loop {
-        if index == buf.len() {
-            break Found::Nowhere;
-        }
-        if m.value <= buf[index] {
-            break Found::At(index);
-        }
-        index += 1;
-    }
+    buf.iter().position(|x| m <= *x)
 }

@@ -1,2 +1,4 @@
--- What the schedules in fixed point ask.
+-- Points in buffers, and their sizes.
+pub mod Buffers
+pub mod Sizes
 pub mod Scans

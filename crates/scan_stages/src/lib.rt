@@ -1,62 +1,79 @@
-// Stages in place in fixed point: block after block, and in a block pair after pair.
+// Points in a lent buffer, and the step on a pair of them.
 #![tactic(auto)]
 
-ghost use Rattle.std.specs.Prelude.{◌≡◌, ◌+◌, ◌*◌, ◌/◌, ◌^◌, ◌≤◌, ◌<◌, length};
-ghost use Rattle.fourier.specs.Schedules.{butterfly, step};
-ghost use Rattle.points.specs.Interleaved.{point, interleaved};
+ghost use Rattle.std.specs.Prelude.{◌/◌, ◌^◌, ◌<◌, pos, length};
+ghost use Rattle.points.specs.Growth.{grow};
+ghost use Rattle.points.specs.Interleaved.{point, points};
 ghost use Rattle.points.specs.Rounding.{half_up};
 ghost use Rattle.points.specs.Steps.{rounded, Sized, Turns};
-ghost use Rattle.scan_stages.specs.Scans.{Scanned};
+ghost use Rattle.scan_stages.specs.Buffers.{origin, point_places};
+ghost use Rattle.scan_stages.specs.Sizes.{half_fits, ready, behind, keeps};
 
-use points::{Parts, Point};
+use points::Point;
+use residues::Exponent;
+use stages::{Places, Step};
 
-// The step on a pair, at the exponent e.
-pub fn pair(a: Point, b: Point, table: &[i32], e: usize) -> Parts
-    requires turns { Turns (point table.now) (length table.now / 2) }
-    requires e_in_bounds { e + e + 1 < length table.now }
-    requires sized { Sized (2 ^ 22) a × Sized (2 ^ 22) b }
-    ensures { (result.0 ≡ rounded half_up (point table.now) 0 e a b) × (result.1 ≡ rounded half_up (point table.now) 1 e a b) }
-{
-    let t = points::point_at(table, e);
-    points::pair(t, a, b)
+// Points in a buffer of numbers, two a place.
+pub struct Points;
+
+impl Places for Points {
+    type Number = i32;
+
+    type Value = Point;
+
+    ghost width = { 2 };
+
+    ghost zero = { origin };
+
+    ghost values = { points };
+
+    ghost blank = { pos 0 };
+
+    fn count(buf: &[i32]) -> usize {
+        buf.len() / 2
+    }
+
+    fn at(buf: &[i32], p: usize) -> Point {
+        points::point_at(buf, p)
+    }
+
+    fn put(buf: &mut [i32], p: usize, v: Point) {
+        points::put_point(buf, p, v);
+    }
+
+    #[tactic(auto, using(stages::specs::Laws::zeros_replicate))]
+    fn clear(buf: &mut [i32]) {
+        buf.fill(0);
+    }
+
+    ghost laws = { point_places };
 }
 
-// One stage on a single block of 2h points: its h pairs, at the exponents 0, stride, 2 stride, ..
-pub fn block(buf: &mut [i32], table: &[i32], stride: usize, h: usize)
-    requires scanned { Scanned (2 ^ 22) table.now buf.old }
-    requires buf_len { length buf.old ≡ h + h + (h + h) }
-    requires le_stride { (1 ≤ stride) × (stride * h ≤ length table.now / 2) }
-    ensures { buf.new ≡ interleaved (h + h)
-        (step (rounded half_up (point table.now)) (butterfly stride h) (point buf.old)) }
-{
-    let mut e = 0;
-    let mut i = 0;
-    while i < h {
-        let a = points::point_at(buf, i);
-        let b = points::point_at(buf, i + h);
-        let parts = pair(a, b, table, e);
-        points::put_point(buf, i, parts.0);
-        points::put_point(buf, i + h, parts.1);
-        e += stride;
-        i += 1;
-    }
+// The step that rounds each part once, with its table.
+#[derive(Clone, Copy)]
+pub struct Rounded<'a> {
+    pub table: &'a [i32],
+    ghost turns: { Turns (point table.now) (length table.now / 2) },
+    ghost fits: { length table.now < 2 ^ 63 },
 }
 
-// One stage: `stride` blocks of 2h points, each lent on.
-pub fn stage(buf: &mut [i32], table: &[i32], stride: usize, h: usize)
-    requires scanned { Scanned (2 ^ 22) table.now buf.old }
-    requires buf_len { length buf.old ≡ stride * (h + h) + stride * (h + h) }
-    requires le_stride { (1 ≤ stride) × (stride * h ≤ length table.now / 2) }
-    ensures { buf.new ≡ interleaved (stride * (h + h))
-        (step (rounded half_up (point table.now)) (butterfly stride h) (point buf.old)) }
-{
-    // The numbers of a block.
-    let size = 4 * h;
-    let mut base = 0;
-    let mut j = 0;
-    while j < stride {
-        block(&mut buf[base..base + size], table, stride, h);
-        base += size;
-        j += 1;
+impl<'a> Step<Points> for Rounded<'a> {
+    ghost wing = { λ s. rounded half_up (point s.table.now) };
+
+    ghost reach = { λ s. length s.table.now / 2 };
+
+    ghost Ready = { λ s z. Sized (2 ^ 22) z };
+
+    ghost Grown = { λ s k z. Sized (grow k) z };
+
+    fn pair(self, a: Point, b: Point, e: Exponent) -> (Point, Point) {
+        points::pair(points::point_at(self.table, e.0), a, b)
     }
+
+    ghost laws = { record {
+      fits = λ s. half_fits s.fits;
+      ready = λ s k z h g. ready k h g;
+      behind = λ s k. behind k;
+      keeps = λ s k x e a b h f g. keeps (point s.table.now) k x e (s.turns.each e h) f g;
+    } };
 }

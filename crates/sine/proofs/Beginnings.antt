@@ -1,5 +1,5 @@
 -- The beginning of one of our own tables taken for the shorter table, one of document 01's slips: it is refused by the closing rule.
-use Rattle.std.specs.Prelude.{ℕ, suc, ◌+◌, ◌-◌, ◌*◌, ◌/◌, ◌^◌, ◌<◌, ◌≤◌, ◌≡◌, refl, true, pos, length, take}
+use Rattle.std.specs.Prelude.{ℕ, suc, ◌+◌, ◌-◌, ◌*◌, ◌/◌, ◌^◌, ◌<◌, ◌≤◌, ◌≡◌, refl, true, pos, length, take, None, Some}
 use Rattle.std.proofs.Common.{sym, ◌∙◌, length-take, pow-add, pow_mono, get_or-take}
 use native.Mathlib.Omega.{arith}
 use Rattle.std.specs.Int.Signed.{non_neg}
@@ -9,7 +9,6 @@ use Rattle.answer.specs.Choice.{refuse_at}
 use Rattle.answer.specs.Lengths.{power_permitted}
 use Rattle.answer.specs.Search.{first}
 use Rattle.answer.proofs.Search.{first_failed, nowhere_passed}
-use Rattle.answer.specs.declared.Found.TheVariants.{At, Nowhere}
 use Rattle.answer.specs.declared.Answer.{Answer}
 use Rattle.fourier.specs.Sizes.{two_halves}
 use Rattle.points.specs.Interleaved.{point}
@@ -21,7 +20,7 @@ use Rattle.sine.specs.Sine.{sine_pair, sine_table, stride, sine_table-length, si
 use Rattle.sine.proofs.Sine.{sine_accepted}
 
 -- Up to a quarter turn no real part is negative: T[N'/2] of the table for N is the constant's pair 2^j, j at most 10.
-quarter : first (λ j. non_neg (point sine (2 ^ j)).re) 0 11 ≡ Nowhere
+quarter : first (λ j. non_neg (point sine (2 ^ j)).re) 0 11 ≡ None
 unfolding sine first
 quarter = refl
 
@@ -39,7 +38,7 @@ module _ (n n' : ℕ) (two : 2 ≤ n') (less : n' < n) (few : n ≤ 12) where
       length-take (2 ^ n') (sine_table n) ∙ omega (arith, sine_table-length n (omega arith))
 
   -- The first N'/2 pairs of the table for N, N' at least 4, taken for the table for N': only the closing rule fails.
-  pub beginning_bad : bad_pair (take (2 ^ n') (sine_table n)) ≡ At (2 ^ (n' - 1))
+  pub beginning_bad : bad_pair (take (2 ^ n') (sine_table n)) ≡ Some (2 ^ (n' - 1))
   beginning_bad =
       let h = 2 ^ (n - 1) in
       let k = 2 ^ (n' - 1) in

@@ -1,6 +1,6 @@
 -- That all twelve tables that the constant makes are accepted.
 use Prim.Native.Nat.{ℕ, zero, suc, ◌+◌, ◌-◌, ◌*◌, ◌/◌, ◌^◌, ◌<◌, ◌≤◌}
-use Rattle.std.specs.Prelude.{◌≡◌, refl, Bool, true, ◌&&◌, List, [], ◌∷◌, ◌++◌, ℤ, pos, length, drop}
+use Rattle.std.specs.Prelude.{◌≡◌, refl, Bool, true, ◌&&◌, List, [], ◌∷◌, ◌++◌, ℤ, pos, length, drop, None}
 use Rattle.std.proofs.Math.Path.{sym, ap}
 use Rattle.std.proofs.Common.{◌∙◌, eq-or-lt_of_le, mul-zero, mul-one, add-suc, arith, get_or-drop}
 use Rattle.std.proofs.Math.Bool.{and-eq-true_iff}
@@ -10,7 +10,6 @@ use Rattle.std.proofs.Math.ListN.{get_or-append}
 use Rattle.std.proofs.Math.Pow.{pow_pos}
 use Rattle.answer.specs.Search.{first}
 use Rattle.answer.proofs.Search.{nowhere_passed}
-use Rattle.answer.specs.declared.Found.TheVariants.{Nowhere}
 use Rattle.fourier.specs.Sizes.{rows}
 use Rattle.points.specs.Interleaved.{number, point}
 use Rattle.points.specs.declared.Point.{Point}
@@ -35,7 +34,7 @@ walk zero s x l = true
 walk (suc k) s x l = (sized (pair l s) && follows x (pair l 0) (pair l s)) && walk k s x (drop s l)
 
 -- The rules hold along each stride, for N = 2^(j+1).
-strides : first (λ j. walk (2 ^ j) (2 ^ (12 - j)) (pair closed (2 ^ (12 - j))) closed) 0 12 ≡ Nowhere
+strides : first (λ j. walk (2 ^ j) (2 ^ (12 - j)) (pair closed (2 ^ (12 - j))) closed) 0 12 ≡ None
 unfolding walk closed sine sized follows first
 strides = refl
 

@@ -1,35 +1,30 @@
 // The filling of a lent table from the sine table.
-ghost use Rattle.std.specs.Prelude.{◌≡◌, ◌/◌, ◌≤◌, length};
+ghost use Rattle.std.specs.Prelude.{◌≡◌, length};
+ghost use Rattle.answer.specs.Choice.{answered, if_done};
 ghost use Rattle.answer.specs.Lengths.{log_of};
 ghost use Rattle.sine.specs.Sine.{sine_table};
-ghost use Rattle.sine.specs.Filling.{FillOutcome};
+ghost use Rattle.sine.specs.Filling.{fixed_fill_verdict, FillOutcome};
 
-use answer::Answer;
+use answer::{Answer, Refusal};
 
 // Fills a table of N numbers with our own table for N. Refusal 3; it changes nothing.
 pub fn fill(table: &mut [i32]) -> Answer
     ensures { FillOutcome table.old result table.new }
 {
-    if answer::log_of(table.len()) == 0 {
-        return answer::TABLE_LENGTH;
-    }
-    let stride = 4096 / table.len();
-    write_pairs(table, stride);
-    answer::DONE
+    Answer::from(try_fill(table))
 }
 
-// Every `stride`-th pair of the constant, number by number.
-fn write_pairs(table: &mut [i32], stride: usize)
-    requires bound { 1 ≤ log_of (length table.old) }
-    requires stride_value { stride ≡ 4096 / length table.old }
-    ensures { table.new ≡ sine_table (log_of (length table.old)) }
+// Every (4,096/N)-th pair of the constant, pair by pair, where N is permitted.
+#[tactic(auto, unfolding(crate::specs::Filling::fixed_fill_verdict))]
+fn try_fill(table: &mut [i32]) -> Result<(), Refusal>
+    ensures answers { answered result ≡ fixed_fill_verdict table.old }
+    ensures leaves { table.new ≡ if_done (fixed_fill_verdict table.old) (sine_table (log_of (length table.old))) table.old }
 {
+    answer::log_of(table.len()).ok_or(Refusal::TableLength)?;
     let numbers = crate::constant::numbers();
-    let mut place = 0;
-    while place < table.len() {
-        let pair = stride * (place / 2);
-        let number = numbers[pair + pair + place % 2];
-        table[place] = number;
-        place += 1;
+    let stride = 4096 / table.len();
+    for p in 0..table.len() / 2 {
+        points::put_point(table, p, points::point_at(&numbers, stride * p));
     }
+    Ok(())
 }

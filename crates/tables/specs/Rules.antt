@@ -1,10 +1,9 @@
 -- The rules of a table in fixed point, place by place.
-use Rattle.std.specs.Prelude.{ℕ, zero, suc, ◌/◌, ◌<◌, ◌≤◌, ◌≡◌, Bool, true, cond, ◌&&◌, List, ltb, ℤ, pos, negsuc, length}
+use Rattle.std.specs.Prelude.{ℕ, zero, suc, ◌/◌, ◌<◌, ◌≤◌, ◌≡◌, Bool, true, cond, ◌&&◌, Option, List, ltb, ℤ, pos, negsuc, length}
 use Rattle.std.proofs.Common.{sym, ◌∙◌, ⊎_elim, arith, lt-ltb, le-ltb}
 use Rattle.std.proofs.Math.Bool.{and-eq-true_iff}
 use Rattle.answer.specs.Cases.{lt_or_ge}
 use Rattle.answer.specs.Search.{first, Passed}
-use Rattle.answer.specs.declared.Found.{Found}
 use Rattle.points.specs.Interleaved.{point}
 use Rattle.points.specs.Steps.{Turn, Turns}
 use Rattle.points.specs.declared.Point.{Point}
@@ -34,7 +33,7 @@ abbrev pub Accepted : ℕ → (ℕ → Point) → Type 0
 Accepted h t = Passed (rule h t) (suc h)
 
 -- 4: the "first .. pair at which a rule fails, N/2 for the closing rule".
-abbrev pub bad_pair : List ℤ → Found
+abbrev pub bad_pair : List ℤ → Option ℕ
 bad_pair l = first (rule (length l / 2) (point l)) 0 (suc (length l / 2))
 
 -- ---- the pairs of a table

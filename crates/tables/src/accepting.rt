@@ -1,19 +1,25 @@
 // Acceptance of a lent table, alone.
-ghost use Rattle.tables.specs.Acceptance.{AcceptOutcome};
+ghost use Rattle.std.specs.Prelude.{◌≡◌};
+ghost use Rattle.answer.specs.Choice.{answered};
+ghost use Rattle.tables.specs.Acceptance.{fixed_accept_verdict, AcceptOutcome};
 
-use answer::{Answer, Found};
+use answer::{Answer, Refusal};
 
 // Whether the table is accepted: 3, 4. N follows from the table's length.
-#[tactic(auto, unfolding(crate::specs::Acceptance::fixed_accept_verdict))]
 pub fn accept(table: &[i32]) -> Answer
     ensures { AcceptOutcome table.now result }
 {
-    if answer::log_of(table.len()) == 0 {
-        return answer::TABLE_LENGTH;
+    Answer::from(try_accept(table))
+}
+
+// The same, before the refusal is put in numbers.
+#[tactic(auto, unfolding(crate::specs::Acceptance::fixed_accept_verdict))]
+fn try_accept(table: &[i32]) -> Result<(), Refusal>
+    ensures { answered result ≡ fixed_accept_verdict table.now }
+{
+    answer::log_of(table.len()).ok_or(Refusal::TableLength)?;
+    if let Some(place) = crate::judge_table(table) {
+        return Err(Refusal::Entry(place));
     }
-    let pair = crate::judge_table(table);
-    if let Found::At(place) = pair {
-        return Answer { number: 4, place };
-    }
-    answer::DONE
+    Ok(())
 }

@@ -1,47 +1,52 @@
 // The judgement of a lent table by its rules.
-ghost use Rattle.std.specs.Prelude.{◌≡◌, ◌/◌, length};
+ghost use Rattle.std.specs.Prelude.{◌≡◌, ◌/◌, true, length};
 ghost use Rattle.answer.specs.Search.{Passed};
 ghost use Rattle.points.specs.Interleaved.{point};
-ghost use Rattle.tables.specs.Rules.{entry, rule, bad_pair};
+ghost use Rattle.rules.specs.Pairs.{sized};
+ghost use Rattle.tables.specs.Rules.{entry, linked, rule, bad_pair};
 
-use answer::Found;
 use points::Point;
 
 // "T[N/2] stands for (-16,384, 0)."
 const HALF_TURN: Point = Point { re: -16384, im: 0 };
 
-// Refusal 4: the first place at which a rule of the table fails, or the accepted mark.
-pub fn judge_table(table: &[i32]) -> Found
+// Refusal 4: the first place at which a rule of the table fails, or none. A loop that breaks with what it found, since a table test has
+// that form here; and no `find`, since a place is tested only where those before it passed.
+pub fn judge_table(table: &[i32]) -> Option<usize>
     ensures { result ≡ bad_pair table.now }
 {
-    let half = table.len() / 2;
-    let mut place = 0;
+    let mut places = 0..table.len() / 2 + 1;
     loop {
-        if half < place {
-            break Found::Nowhere;
-        }
+        let Some(place) = places.next() else {
+            break None;
+        };
         if !holds(table, place) {
-            break Found::At(place);
+            break Some(place);
         }
-        place += 1;
     }
 }
 
 // Whether the rules hold at a place, where they hold at those before it. The sizes of a pair are tested before it is multiplied.
+#[tactic(auto, unfolding(crate::specs::Rules::rule))]
 fn holds(table: &[i32], place: usize) -> bool
     requires { Passed (rule (length table.now / 2) (point table.now)) place }
     ensures { result ≡ rule (length table.now / 2) (point table.now) place }
 {
+    rules::sized(entry(table, place)) && linked(table, place)
+}
+
+// Whether a pair of permitted size begins the table, or goes on from the pair before it.
+fn linked(table: &[i32], place: usize) -> bool
+    requires before { Passed (rule (length table.now / 2) (point table.now)) place }
+    requires here { sized (entry (length table.now / 2) (point table.now) place) ≡ true }
+    ensures { result ≡ linked (length table.now / 2) (point table.now) place }
+{
     let here = entry(table, place);
-    if !rules::sized(here) {
-        return false;
-    }
     if place == 0 {
-        return rules::starts(here);
+        rules::starts(here)
+    } else {
+        rules::follows(entry(table, 1), entry(table, place - 1), here)
     }
-    let x = entry(table, 1);
-    let before = entry(table, place - 1);
-    rules::follows(x, before, here)
 }
 
 // T[i].
@@ -50,7 +55,8 @@ fn entry(table: &[i32], i: usize) -> Point
     ensures { result ≡ entry (length table.now / 2) (point table.now) i }
 {
     if i < table.len() / 2 {
-        return points::point_at(table, i);
+        points::point_at(table, i)
+    } else {
+        HALF_TURN
     }
-    HALF_TURN
 }

@@ -6,8 +6,9 @@ use native.Mathlib.Numerals.{add-one}
 use native.Mathlib.Omega.{arith}
 use lib.ListN.{length, set, length-set}
 use lib.Seq.{sets}
-use borrow.Author.Tests.{le-leb, lt-leb}
-use Rattle.writer.specs.declared.Put.TheVariants.{Behind, NoRoom}
+use Rattle.std.proofs.Common.{Ok}
+use Rattle.std.proofs.Math.Decide.{dec_lt}
+use borrow.Author.Tests.{le-leb}
 use Rattle.groups.specs.Groups.{bytes_of}
 use Rattle.writer.specs.Outcomes.{PutOutcome}
 use Rattle.groups.specs.Theorems.{bytes_one, bytes_more, bytes_few}
@@ -19,10 +20,6 @@ pub record Writing (v p : ℕ) (out₀ out : List ℕ) (rest q : ℕ) : Type 0 w
   pub room : p + length (bytes_of v) ≤ length out₀
   pub ends : q + length (bytes_of rest) ≡ p + length (bytes_of v)
   pub left : sets out q (bytes_of rest) ≡ sets out₀ p (bytes_of v)
-
--- There is no room.
-pub put_none : (v p : ℕ) (out : List ℕ) → length out < p + length (bytes_of v) → PutOutcome v p out NoRoom out
-put_none v p out h = let e = lt-leb (p + length (bytes_of v)) (length out) h in record { answers = rw e; leaves = rw e }
 
 module _ {v p : ℕ} {out₀ out : List ℕ} {rest q : ℕ} (r : Writing v p out₀ out rest q) where
   pub inside : q < length out
@@ -39,9 +36,23 @@ module _ {v p : ℕ} {out₀ out : List ℕ} {rest q : ℕ} (r : Writing v p out
         left = rw add-one (rw more at r.left);
       }
 
-  pub write_last : rest < 128 → PutOutcome v p out₀ (Behind (q + 1)) (set out q rest)
-  write_last h =
-      let one = bytes_one rest h in
-      let e = le-leb (p + length (bytes_of v)) (length out₀) r.room in
-      let ends : q + 1 ≡ p + length (bytes_of v) = omega (arith, r.ends, ap length one) in
-      record { answers = rw (e, ends); leaves = rw e (rw one at r.left) }
+  -- A group is the last just where its byte is.
+  pub low : q + 1 ≡ p + length (bytes_of v) → rest < 128
+  low e = by (dec_lt rest 128)
+    where
+      by : Dec (rest < 128) → rest < 128
+      by (yes l) = l
+      by (no l) = let more = ap length (bytes_more rest (omega arith) (omega (arith, r.small))) in absurd (omega (arith, r.ends, bytes_few (rest / 128)))
+
+  pub high : q + 1 < p + length (bytes_of v) → 128 ≤ rest
+  high h = by (dec_lt rest 128)
+    where
+      by : Dec (rest < 128) → 128 ≤ rest
+      by (yes l) = let one = ap length (bytes_one rest l) in absurd (omega (arith, r.ends))
+      by (no l) = omega arith
+
+  pub write_last : {last end : ℕ} → last ≡ q → end ≡ q + 1 → end ≡ p + length (bytes_of v) → PutOutcome v p out₀ (Ok end) (set out last rest)
+  write_last e f g =
+      let one = bytes_one rest (low (omega arith)) in
+      let t = le-leb (p + length (bytes_of v)) (length out₀) r.room in
+      record { answers = rw (t, g); leaves = rw (t, e) (rw one at r.left) }

@@ -5,44 +5,38 @@ ghost use Rattle.std.specs.Prelude.{◌≡◌, length};
 ghost use Rattle.groups.specs.Groups.{bytes_of};
 ghost use Rattle.writer.specs.Outcomes.{PutOutcome};
 
-// What the writer answers: the place behind the number, or that there is no room for it.
-#[derive(Clone, Copy)]
-pub enum Put {
-    Behind(usize),
-    NoRoom,
-}
+// There is no room for all of the number.
+#[derive(Clone, Copy, Debug, PartialEq, Eq)]
+pub struct NoRoom;
 
-// How many bytes v takes.
+// How many bytes v takes. A `while`, since the number of its steps is what it counts.
 fn size_of(v: u32) -> usize
     ensures { result ≡ length (bytes_of v) }
 {
     let mut rest = v;
     let mut size = 1;
     while 128 <= rest {
-        rest = rest / 128;
+        rest /= 128;
         size += 1;
     }
     size
 }
 
-// Writes v from place p of out on. Without room for all of it nothing is written.
-pub fn put_number(out: &mut [u8], p: usize, v: u32) -> Put
+// Writes v from place p of out on, and answers the place behind it. Without room for all of it nothing is written.
+pub fn put_number(out: &mut [u8], p: usize, v: u32) -> Result<usize, NoRoom>
     ensures { PutOutcome v p out.old result out.new }
 {
-    let size = size_of(v);
-    if out.len() < size {
-        return Put::NoRoom;
+    let end = p.checked_add(size_of(v)).ok_or(NoRoom)?;
+    if out.len() < end {
+        return Err(NoRoom);
     }
-    if out.len() - size < p {
-        return Put::NoRoom;
-    }
+    // By place, since of a part that was lent to an iterator only the length is known afterwards.
+    let last = end - 1;
     let mut rest = v;
-    let mut q = p;
-    while 128 <= rest {
+    for q in p..last {
         out[q] = (rest % 128 + 128) as u8;
-        rest = rest / 128;
-        q += 1;
+        rest /= 128;
     }
-    out[q] = rest as u8;
-    Put::Behind(q + 1)
+    out[last] = rest as u8;
+    Ok(end)
 }

@@ -1,12 +1,11 @@
-use Rattle.std.proofs.Common.{◌≡◌, sym, ap, ◌∙◌, arith, rules}
-use Rattle.answer.proofs.Search.{first_passed, first_failed}
-use Rattle.fixed_judgement.specs.Verdicts.{in_range, ranged}
+-- The first part outside the range is the first place at which the test of the range fails.
+use Rattle.std.proofs.Common.{◌≡◌, pos, true, false, rules, tests}
+use Rattle.std.proofs.lemmas.Iterator.{IsFirst-from_position, YieldsList-from_slice}
+use Rattle.answer.proofs.Search.{first_position}
+use Rattle.fixed_judgement.specs.Verdicts.{in_range}
 use Rattle.fixed_judgement.proofs.judge_samples.Goals as goal
 
-pub returns-then-index-buf : goal.returns-then-index-buf
-returns-then-index-buf c = sym (first_passed (rw c.if-index-buf.true at c.loop-index.invariant.1))
-
-pub returns-then-not-in_range : goal.returns-then-not-in_range
-returns-then-not-in_range c =
-    let tested : c.in_range.result ≡ ranged c.args.buf.now c.loop-index.index = c.in_range.ensures ∙ ap in_range (search rules) in
-    sym (first_failed (record { within = omega arith; fails = sym tested ∙ c.if-not-in_range.true; before = c.loop-index.invariant.1 }))
+pub returns : goal.returns
+returns c =
+    first_position in_range (pos 0) c.args.buf.now c.position.result
+    (IsFirst-from_position _ _ c.position.result (λ x. in_range x ≡ false) (λ x. in_range x ≡ true) c.position.ensures.ran (YieldsList-from_slice c.args.buf.now cc) (λ x q k. search (rules, tests)) (λ x q k. search (rules, tests)))

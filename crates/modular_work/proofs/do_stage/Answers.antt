@@ -1,24 +1,30 @@
-use mathlib.Core.Path.{◌≡◌, ◌∙◌}
-use native.Mathlib.Omega.{arith}
-use lib.ListN.{length}
-use Rattle.modular_work.specs.Works.{stage_of}
-use Rattle.modular_work.proofs.Scratch.{untouched, zeroed, scratch_long}
+use Rattle.std.proofs.Common.{refl}
+use Rattle.modular_work.specs.Works.{stage_of, cleared}
+use Rattle.butterflies.proofs.Asked.{sizes}
+use Rattle.modular_work.proofs.Scratch.{scratch_long}
 use Rattle.modular_work.proofs.do_stage.Goals as goal
 
-pub returns-then-schedule-eq1 : goal.returns-then-schedule-eq1
-unfolding stage_of
-returns-then-schedule-eq1 c =
-    let s = c.args in
-    record { buf_after = rw c.if-schedule-eq1.true c.column_stage.ensures; scratch_after = untouched s.schedule s.scratch.now (rw c.if-schedule-eq1.true) }
+pub through_scratch-requires-clause-scratch_len : goal.through_scratch-requires-clause-scratch_len
+through_scratch-requires-clause-scratch_len c = scratch_long 2 _ _ refl (rw c.in-Shuffle.is at c.requires.scratch_len)
 
-pub single-requires : goal.single-requires
-single-requires c =
-    let two : c.args.schedule ≡ 2 = omega arith in
-    record { judged = c.requires.judged; s_lt_n = c.requires.s_lt_n; scratch_len = scratch_long c.args.schedule (length c.args.scratch.now) (length c.args.buf.now) (rw two) c.requires.le_schedule.2 }
-
-pub returns : goal.returns
+pub returns-in-Columns-clause-buf_after : goal.returns-in-Columns-clause-buf_after
 unfolding stage_of
-returns c =
-    let two : c.args.schedule ≡ 2 = omega arith in
-    let s = c.args in
-    record { buf_after = rw two c.single.ensures.buf_after; scratch_after = c.single.ensures.scratch_after ∙ zeroed s.schedule s.scratch.now (rw two) }
+returns-in-Columns-clause-buf_after c = rw (c.in-Columns.is, c.requires.s_lt_n.1) c.column_stage.ensures.after
+
+pub returns-in-Columns-clause-scratch_after : goal.returns-in-Columns-clause-scratch_after
+unfolding cleared
+returns-in-Columns-clause-scratch_after c = rw c.in-Columns.is refl
+
+pub returns-in-Shuffle-clause-buf_after : goal.returns-in-Shuffle-clause-buf_after
+unfolding stage_of
+returns-in-Shuffle-clause-buf_after c = rw (c.in-Shuffle.is, c.requires.s_lt_n.1) c.through_scratch.ensures.after
+
+pub returns-in-Shuffle-clause-scratch_after : goal.returns-in-Shuffle-clause-scratch_after
+unfolding cleared
+returns-in-Shuffle-clause-scratch_after c = rw c.in-Shuffle.is c.through_scratch.ensures.scratch_after
+
+pub column_stage-requires-clause-sizes : goal.column_stage-requires-clause-sizes
+column_stage-requires-clause-sizes c = sizes c.requires.s_lt_n c.args.roots.few
+
+pub through_scratch-requires-clause-sizes : goal.through_scratch-requires-clause-sizes
+through_scratch-requires-clause-sizes c = sizes c.requires.s_lt_n c.args.roots.few

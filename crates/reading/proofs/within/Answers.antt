@@ -1,5 +1,5 @@
 -- The beginnings of the memory are lent on, as long as they are used.
-use Rattle.std.proofs.Common.{◌/◌, ◌∙◌, length-take-le, take_at}
+use Rattle.std.proofs.Common.{◌/◌, ◌∙◌, drop, length-take-le, take_at}
 use Rattle.reading.proofs.within.Goals as goal
 
 pub with_head-requires : goal.with_head-requires
@@ -13,5 +13,4 @@ with_head-requires c =
 pub returns : goal.returns
 returns c =
     let samples = length-take-le c.args.n c.args.samples.now c.requires.n_in_bounds.1 in
-    let e = rw samples at c.with_head.ensures in
-    record { value = e.value; samples_after = λ z. take_at _ _ _ (c.with_head.auto.samples ∙ samples) ∙ e.samples_after z }
+    rw (take_at c.with_head.new.samples (drop c.args.n c.args.samples.now) c.args.n (c.with_head.auto.samples ∙ samples)) (rw samples at c.with_head.ensures)

@@ -1,21 +1,13 @@
-use mathlib.Core.Path.{sym}
-use native.Mathlib.Omega.{arith}
-use borrow.Author.Tests.{lt-ltb, le-ltb}
-use Rattle.answer.specs.Search.{passed_none, passed_more}
-use Rattle.answer.proofs.Search.{first_passed, first_failed}
+-- The first sample at or above m is the first place at which the test "below m" fails.
+use Rattle.std.proofs.Common.{◌≡◌, true, false, ltb, rules, tests}
+use Rattle.std.proofs.lemmas.Iterator.{IsFirst-from_position, YieldsList-from_slice}
+use Rattle.answer.proofs.Search.{first_position}
 use Rattle.residues.specs.Judgement.{below}
 use Rattle.residue_tables.proofs.judge_samples.Goals as goal
 
-pub loop-index-init : goal.loop-index-init
-loop-index-init c = (omega arith, passed_none _)
-
-pub loop-index-preserved : goal.loop-index-preserved
+pub returns : goal.returns
 unfolding below
-loop-index-preserved c = (omega arith, passed_more c.loop-index.invariant.1 (lt-ltb _ _ c.if-m-buf.false))
-
-pub returns-then-index-buf : goal.returns-then-index-buf
-returns-then-index-buf c = sym (first_passed (rw c.if-index-buf.true at c.loop-index.invariant.1))
-
-pub returns-then-m-buf : goal.returns-then-m-buf
-unfolding below
-returns-then-m-buf c = sym (first_failed (record { within = omega arith; fails = le-ltb _ _ c.if-m-buf.true; before = c.loop-index.invariant.1 }))
+returns c =
+    let m = c.args.m in
+    first_position (λ x. ltb x m) 0 c.args.buf.now c.position.result
+    (IsFirst-from_position _ _ c.position.result (λ x. ltb x m ≡ false) (λ x. ltb x m ≡ true) c.position.ensures.ran (YieldsList-from_slice c.args.buf.now cc) (λ x q k. search (rules, tests)) (λ x q k. search (rules, tests)))

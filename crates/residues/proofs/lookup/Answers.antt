@@ -14,7 +14,7 @@ returns-then-place-table c = simp (lt-ltb _ _ c.if-place-table.true)
 pub minus-requires : goal.minus-requires
 minus-requires c =
     let entry = c.requires.below.each (c.args.e.0 - length c.args.table.now) in
-    record { permitted = c.requires.permitted; a_lt_value = (omega arith, omega arith) }
+    (omega arith, omega arith)
 
 pub returns : goal.returns
 unfolding lookup

@@ -1,35 +1,39 @@
 use native.Mathlib.Omega.{arith}
 use mathlib.Core.Path.{refl}
-use lib.ListN.{length-set}
-use Rattle.writer.proofs.Writing.{put_none, inside, write_more, write_last}
+use Rattle.groups.specs.Theorems.{bytes_few}
+use Rattle.writer.proofs.Writing.{inside, write_more, write_last, low, high}
 use Rattle.writer.proofs.put_number.Goals as goal
 
-pub returns-then-out-size : goal.returns-then-out-size
-returns-then-out-size c = put_none _ _ _ (omega (arith, c.size_of-size.ensures, c.if-out-size.true))
+pub overflow_sub-last : goal.overflow_sub-last
+overflow_sub-last c =
+    let ends = rw c.in_ok-end.ensures.ok_part at c.checked_add.ensures in
+    omega (arith, c.size_of.ensures, bytes_few c.args.v)
 
-pub returns-then-out-size-2 : goal.returns-then-out-size-2
-returns-then-out-size-2 c = put_none _ _ _ (omega (arith, c.size_of-size.ensures, c.if-out-size.false, c.if-out-size-2.true))
-
-pub loop-rest-init : goal.loop-rest-init
-loop-rest-init c = record { long = refl; small = omega arith; room = omega (arith, c.size_of-size.ensures, c.if-out-size.false, c.if-out-size-2.false); ends = refl; left = refl }
+pub loop-q-init : goal.loop-q-init
+loop-q-init c =
+    let ends = rw c.in_ok-end.ensures.ok_part at c.checked_add.ensures in
+    record {
+      writing = record { long = refl; small = omega arith; room = omega (arith, c.size_of.ensures); ends = refl; left = refl };
+      ends = omega (arith, c.size_of.ensures);
+      last = omega (arith, c.size_of.ensures, bytes_few c.args.v);
+      within = omega (arith, c.size_of.ensures, bytes_few c.args.v);
+    }
 
 pub bounds-out-q : goal.bounds-out-q
-bounds-out-q c = inside c.loop-rest.invariant
+bounds-out-q c = inside c.loop-q.invariant.writing
 
-pub overflow_add-q : goal.overflow_add-q
-overflow_add-q c = omega (arith, inside c.loop-rest.invariant)
+pub loop-q-preserved : goal.loop-q-preserved
+loop-q-preserved c =
+    let l = c.loop-q.invariant in
+    record { writing = write_more l.writing (high l.writing (omega arith)); ends = l.ends; last = l.last; within = l.within }
 
-pub loop-rest-preserved : goal.loop-rest-preserved
-loop-rest-preserved c = write_more c.loop-rest.invariant c.loop-rest-test.true
+pub overflow_cast-out-2 : goal.overflow_cast-out-2
+overflow_cast-out-2 c = omega (arith, low c.loop-q.invariant.writing (omega arith))
 
-pub bounds-out-q-2 : goal.bounds-out-q-2
-bounds-out-q-2 c = inside c.loop-rest.invariant
-
-pub overflow_add-result : goal.overflow_add-result
-overflow_add-result c = omega (arith, inside c.loop-rest.invariant)
-
-pub shape_of-out : goal.shape_of-out
-shape_of-out c = simp length-set c.loop-rest.invariant.long
+pub bounds-out-last : goal.bounds-out-last
+bounds-out-last c = omega (arith, inside c.loop-q.invariant.writing)
 
 pub returns : goal.returns
-returns c = write_last c.loop-rest.invariant (omega (arith, c.loop-rest-test.false))
+returns c =
+    let l = c.loop-q.invariant in
+    write_last l.writing (omega arith) (omega arith) (omega arith)

@@ -1,9 +1,0 @@
--- By the two cases of the byte.
-use borrow.Author.Tests.{eq-eqb, ne_eqb}
-use Rattle.groups.proofs.overlong.Goals as goal
-
-pub returns-then-byte-eq0 : goal.returns-then-byte-eq0
-returns-then-byte-eq0 c = rw (eq-eqb _ _ c.if-byte-eq0.true)
-
-pub returns : goal.returns
-returns c = rw (ne_eqb _ _ c.if-byte-eq0.false)

@@ -1,0 +1,2 @@
+-- Laws that serve proofs of code.
+pub mod Sizes

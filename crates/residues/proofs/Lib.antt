@@ -1,2 +1,0 @@
--- Laws that serve proofs of code.
-pub mod Arithmetic

@@ -1,4 +1,0 @@
--- Laws that serve proofs of code.
-pub mod Buffers
-pub mod Sizes
-pub mod Blocks

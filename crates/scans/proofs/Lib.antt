@@ -1,3 +1,0 @@
--- Laws that serve proofs of code.
-pub mod Going
-pub mod ByHalves

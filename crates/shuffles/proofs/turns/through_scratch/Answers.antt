@@ -1,9 +1,0 @@
--- What the stage leaves in scratch is copied to the buffer.
-use mathlib.Core.Path.{ap, ◌∙◌}
-use Rattle.shuffles.specs.Stages.{zeros}
-use Rattle.shuffles.proofs.turns.through_scratch.Goals as goal
-
-pub returns : goal.returns
-returns c =
-    let stage = c.stage in
-    record { buf_after = c.copy.ensures ∙ stage.ensures; scratch_after = c.clear.ensures ∙ ap zeros stage.auto.to }

@@ -1,2 +1,0 @@
--- What the stages by shuffle compute.
-pub mod Stages
