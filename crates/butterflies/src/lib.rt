@@ -37,6 +37,7 @@ impl Places for Residues {
         buf[p] = v;
     }
 
+    // Here and over points: the trait knows what a cleared number is (`blank`) in ghost code alone.
     #[tactic(auto, using(stages::specs::Laws::zeros_replicate))]
     fn clear(buf: &mut [u32]) {
         buf.fill(0);
@@ -46,7 +47,7 @@ impl Places for Residues {
 }
 
 // The steps: of schedules 1, 2 and 3; of schedules 4 and 5; and of the inverse. Three types, since they differ in `wing` and `pair`; the
-// rest, which is alike, a trait asks of each.
+// rest, which is alike, a trait asks of each. They hold a lent table, which nothing compares or prints, so they derive no more than this.
 #[derive(Clone, Copy)]
 pub struct Frequency<'a>(pub Roots<'a>);
 

@@ -36,8 +36,8 @@ fn in_range(part: i32) -> bool
     LEAST <= part && part <= MOST
 }
 
-// Refusal 5: the index of the first number outside the range, or none. A function of its own in the code too: drawn into the transform, its
-// loop kept a bound in memory.
+// Refusal 5: the index of the first number outside the range, or none. Over residues the bound is the modulus, so each carrier has its own. A
+// function of its own in the code too: drawn into the transform, its loop kept a bound in memory.
 #[inline(never)]
 fn judge_samples(buf: &[i32]) -> Option<usize>
     ensures { result ≡ bad_sample buf.now }
@@ -53,7 +53,8 @@ fn scratch_fits(schedule: Schedule, scratch: usize, len: usize) -> bool
     schedule != Schedule::Shuffle || scratch == len
 }
 
-// The transform: 7, 1, 6, 3, 4, 5. What passes is its schedule and its n.
+// The transform: 7, 1, 6, 3, 4, 5; over residues the order has a modulus in it, so it stands there too. The schedule comes as C's number and is
+// judged here. What passes is its schedule and its n.
 #[tactic(auto, unfolding(crate::specs::Verdicts::transform_verdict))]
 pub fn judge_transform(
     schedule: u32,

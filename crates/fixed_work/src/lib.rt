@@ -16,7 +16,8 @@ use counting::Multiples;
 use fixed_judgement::Schedule;
 use scan_stages::{Points, Rounded};
 
-// All n stages of the schedule: one of three, over points.
+// All n stages of the schedule: one of three, over points. The table is a `Rounded` from here on: `Scanned`, of the table with its scan, says what
+// that type asks.
 pub fn do_schedule(
     schedule: Schedule,
     buf: &mut [i32],

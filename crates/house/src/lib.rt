@@ -11,7 +11,8 @@ use answer::{Answer, Refusal};
 pub use house_rows::{Setting, Yielded, setting_of};
 use residues::{Modulus, Residue};
 
-// Fills a table with the powers of the setting's root for N, where the table has N/2 entries. Refusals 2, 3 and 4; they change nothing.
+// Fills a table with the powers of the setting's root for N, where the table has N/2 entries; in fixed point a table is copied from a constant.
+// Refusals 2, 3 and 4; they change nothing.
 pub fn fill(setting: Setting, table: &mut [u32]) -> Answer
     ensures { FillOutcome setting table.old result table.new }
 {

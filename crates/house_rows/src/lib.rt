@@ -71,7 +71,7 @@ const ROWS: [Setting; 3] = [
     },
 ];
 
-// The setting of a house row: 9 for another row.
+// The setting of a house row: 9 for another row. The row is C's number, judged here; `as`, since a `usize` has no `From` of a `u32`, and is wider.
 pub fn setting_of(row: u32) -> Result<Setting, Refusal>
     ensures { SettingOutcome row (answered result) (setting_or_zeros result) }
 {

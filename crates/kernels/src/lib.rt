@@ -18,7 +18,8 @@ ghost use Rattle.scan_stages.specs.Scans.{Scanned};
 
 use residues::{Modulus, Roots};
 
-// All n stages of the schedule, over residues.
+// All n stages of the schedule, over residues. The parameters are C's: a number for the schedule, a table beside its modulus; so a clause says of
+// them what `Modulus` and `Roots` say of themselves.
 #[unsafe(no_mangle)]
 pub extern "C" fn fdr_modular_kernel(
     schedule: u32,
@@ -40,7 +41,7 @@ pub extern "C" fn fdr_modular_kernel(
     modular_work::do_schedule(schedule, buf, Roots { table, modulus }, n, scratch);
 }
 
-// All n stages of the schedule, in fixed point.
+// All n stages of the schedule, in fixed point; the schedule is C's number here too.
 #[unsafe(no_mangle)]
 pub extern "C" fn fdr_fixed_kernel(
     schedule: u32,

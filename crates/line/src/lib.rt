@@ -12,7 +12,8 @@ use answer::Answer;
 use std::io;
 use std::io::Write;
 
-// Answers the request as `dft` prints it: the line stands at the end of out, from the place that is answered on.
+// Answers the request as `dft` prints it: the line stands at the end of out, from the place that is answered on. Out has room for the longest line,
+// since there is no heap.
 pub fn respond(input: &[u8], out: &mut [u8; 86058]) -> usize
     ensures { LineOutcome input.now out.old result out.new }
 {
@@ -38,7 +39,7 @@ pub fn write_from<W: Write>(to: &mut W, text: &[u8], start: usize) -> io::Result
     to.write_all(&text[start..])
 }
 
-// Writes the whole line at the end of out.
+// Writes the whole line at the end of out. `as`, since a `u64` has no `From` of a `usize`; it is as wide.
 pub fn put_line(out: &mut [u8], answer: Answer, results: &[u32]) -> usize
     requires { 42 + 21 * length results.now ≤ length out.old }
     ensures { Stands (line (record { answer = answer; results = results.now })) (length out.old) out.old
@@ -74,7 +75,7 @@ fn put_spaced(out: &mut [u8], p: usize, v: u64) -> usize
 }
 
 // Writes v in decimal in front of place p. By hand, since the line stands at the end of what is lent: `Display` writes from the start on.
-// A `while`, since the number of digits is known once they are written.
+// A `while`, since the number of digits is known once they are written. A digit fits a byte, so `as` loses nothing.
 fn put_decimal(out: &mut [u8], p: usize, v: u64) -> usize
     requires { (20 ≤ p) × (p ≤ length out.old) }
     ensures { Stands (decimal v) p out.old result out.new }

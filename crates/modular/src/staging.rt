@@ -21,7 +21,7 @@ pub fn stage(
     Answer::from(try_stage(schedule, s, buf, m, table, scratch))
 }
 
-// The same, with the refusal as it is.
+// The same, with the refusal as it is. `as`, since a `usize` has no `From` of a `u32`, and is wider.
 fn try_stage(
     schedule: u32,
     s: u32,

@@ -65,7 +65,7 @@ fn judge_rest<'a>(
     judge_lent(buf, modulus, table)
 }
 
-// The whole transform: 7, 1, and the rest; else the schedule, the n and the table to work with.
+// The whole transform: 7, 1, and the rest; else the schedule, the n and the table to work with. In fixed point the rest is another.
 #[tactic(auto, using(crate::proofs::Tests::long, crate::proofs::Tests::short), unfolding(crate::specs::Verdicts::transform_verdict))]
 pub fn judge_transform<'a>(
     schedule: u32,
@@ -86,7 +86,8 @@ pub fn judge_transform<'a>(
     Ok((schedule, n, roots))
 }
 
-// A single stage: 7, 1, 8, and the rest; else the schedule, the n and the table to work with.
+// A single stage: 7, 1, 8, and the rest; else the schedule, the n and the table to work with. `as`, since a `usize` has no `From` of a `u32`, and is
+// wider.
 #[tactic(auto, using(crate::proofs::Tests::long, crate::proofs::Tests::short), unfolding(crate::specs::Verdicts::stage_verdict))]
 pub fn judge_stage<'a>(
     schedule: u32,

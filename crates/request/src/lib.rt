@@ -37,8 +37,8 @@ fn asked(
     Ok(n)
 }
 
-// Answers the request, with how many results there are, or with its refusal. The results stand at the start of `results`; a refusal changes
-// nothing there.
+// Answers the request, with how many results there are, or with its refusal. The results stand at the start of `results`, which has room for
+// those of every request, since there is no heap; a refusal changes nothing there.
 pub fn request(input: &[u8], results: &mut [u32; 4096]) -> Result<usize, Refusal>
     ensures { RequestOutcome input.now results.old result results.new }
 {

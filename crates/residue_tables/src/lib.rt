@@ -8,7 +8,7 @@ ghost use Rattle.residues.specs.Judgement.{bad_entry, bad_sample};
 
 use residues::Modulus;
 
-// The root of a table: "its second entry, or m - 1 when N = 2".
+// The root of a table: "its second entry, or m - 1 when N = 2". Table and modulus side by side: they are `Roots` once they are judged.
 #[tactic(auto, unfolding(fourier::specs::Table::root))]
 fn root_of(table: &[u32], m: Modulus) -> u32
     requires in_bounds { 1 ≤ length table.now }
@@ -27,8 +27,8 @@ fn closes(wanted: u32, m: Modulus) -> bool
     wanted == m.value - 1
 }
 
-// Refusal 4: the first place at which a rule of the table fails, or none. A loop that breaks with what it found, since a table test has
-// that form here.
+// Refusal 4: the first place at which a rule of the table fails, or none; in fixed point the rules are others. A loop that breaks with the first
+// such place or with none, the form that document 01 asks of a table test: what an entry must be comes from the one before it.
 pub fn judge_table(table: &[u32], m: Modulus) -> Option<usize>
     requires in_bounds { 1 ≤ length table.now }
     ensures { result ≡ bad_entry m.value table.now }
@@ -52,7 +52,7 @@ pub fn judge_table(table: &[u32], m: Modulus) -> Option<usize>
     }
 }
 
-// Refusal 5: the first place of a sample at or above m, for any number m.
+// Refusal 5: the first place of a sample at or above m, for any number m; in fixed point the range is one and has two ends.
 pub fn judge_samples(buf: &[u32], m: u32) -> Option<usize>
     ensures { result ≡ bad_sample m buf.now }
 {

@@ -90,7 +90,8 @@ impl Modulus {
     }
 }
 
-// A table with its modulus, as the judgement leaves it: its entries are below m, and 2,048 at most.
+// A table with its modulus, as the judgement leaves it: its entries are below m, and 2,048 at most. Nothing compares or prints a lent table, so it
+// derives no more than this.
 #[derive(Clone, Copy)]
 pub struct Roots<'a> {
     pub table: &'a [u32],
@@ -99,7 +100,8 @@ pub struct Roots<'a> {
     ghost few: { length table.now ≤ 2048 },
 }
 
-// Of any table below m, `Roots` or not, the root to the e: "an exponent e from N/2 to N - 1 means minus the entry at e - N/2".
+// The root to the e: "an exponent e from N/2 to N - 1 means minus the entry at e - N/2". Of any table below m, beside its modulus: `Roots` ask for
+// 2,048 entries at most, and this doesn't.
 pub fn lookup(table: &[u32], e: Exponent, m: Modulus) -> Residue
     requires below { Below m.value table.now }
     requires e_in_bounds { e.0 < length table.now + length table.now }

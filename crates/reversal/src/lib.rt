@@ -8,7 +8,8 @@ ghost use Rattle.stages.specs.Laws.{held};
 
 use stages::Places;
 
-// "Bit reversal of a lent buffer" of 2^n places: place p receives what stood at rev(p), each pair of places exchanged once.
+// "Bit reversal of a lent buffer" of 2^n places: place p receives what stood at rev(p), each pair of places exchanged once. By place, since a
+// place is exchanged with one anywhere in the buffer.
 pub fn reverse<P: Places>(buf: &mut [P::Number], n: usize)
     requires { (length buf.old ≡ P.width * 2 ^ n) × (n ≤ 12) }
     ensures after { P.values buf.new ≡ tabulate (2 ^ n) (λ p. held P.zero (P.values buf.old) (rev n p)) }

@@ -41,6 +41,7 @@ impl Places for Points {
         points::put_point(buf, p, v);
     }
 
+    // Here and over residues: the trait knows what a cleared number is (`blank`) in ghost code alone.
     #[tactic(auto, using(stages::specs::Laws::zeros_replicate))]
     fn clear(buf: &mut [i32]) {
         buf.fill(0);
@@ -49,7 +50,7 @@ impl Places for Points {
     ghost laws = { point_places };
 }
 
-// The step that rounds each part once, with its table.
+// The step that rounds each part once, with its table: a lent one, which nothing compares or prints, so it derives no more than this.
 #[derive(Clone, Copy)]
 pub struct Rounded<'a> {
     pub table: &'a [i32],

@@ -14,7 +14,8 @@ pub fn fill(table: &mut [i32]) -> Answer
     Answer::from(try_fill(table))
 }
 
-// Every (4,096/N)-th pair of the constant, pair by pair, where N is permitted.
+// Every (4,096/N)-th pair of the constant, pair by pair, where N is permitted. By place, since a pair is two numbers: of a slice whose
+// parts `chunks_exact_mut` lent on, only the length is known afterwards.
 #[tactic(auto, unfolding(crate::specs::Filling::fixed_fill_verdict))]
 fn try_fill(table: &mut [i32]) -> Result<(), Refusal>
     ensures answers { answered result ≡ fixed_fill_verdict table.old }

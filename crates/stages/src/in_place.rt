@@ -7,7 +7,8 @@ ghost use Rattle.stages.specs.Laws.{held};
 use crate::{Places, Step};
 use residues::Exponent;
 
-// One stage on a single block of 2h places: its h pairs, at the exponents 0, stride, 2 stride, ..
+// One stage on a single block of 2h places: its h pairs, at the exponents 0, stride, 2 stride, .. By place, since a pair stands h places apart, and
+// a carrier says how many numbers a place has.
 pub fn block<P: Places, S: Step<P>>(buf: &mut [P::Number], by: S, stride: usize, h: usize)
     requires buf_len { length buf.old ≡ P.width * (h + h) }
     requires ready { (p : ℕ) → S.Ready by (held P.zero (P.values buf.old) p) }

@@ -1,5 +1,6 @@
 // The five schedules over any carrier: values in a lent buffer, the step on a pair of them, and the stages that take it from pair to pair.
-// Buffers, step and n are parameters, and sizes a clause of each function: a struct of them would hold the lent buffers, whose halves are lent on.
+// Buffers, step and n are parameters, and sizes a clause of each function: what is asked differs (of all places, of a block, of a half at twice the
+// stride, of two buffers), so that no one type's invariant says it.
 #![tactic(auto)]
 
 ghost use Rattle.std.specs.Prelude.{◌≡◌, ℕ, ◌≤◌, ◌<◌, List, length, get_or, set};

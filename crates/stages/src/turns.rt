@@ -66,7 +66,7 @@ pub fn through_scratch<P: Places, S: Step<P>, E: Exponents>(
     P::clear(scratch);
 }
 
-// Stage s from one buffer into the other: places k and k + N/2 give places 2k and 2k + 1.
+// Stage s from one buffer into the other: places k and k + N/2 give places 2k and 2k + 1. By place, since the four lie apart in two buffers.
 fn stage<P: Places, S: Step<P>, E: Exponents>(
     from: &[P::Number],
     to: &mut [P::Number],

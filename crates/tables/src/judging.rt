@@ -10,8 +10,8 @@ use points::Point;
 // "T[N/2] stands for (-16,384, 0)."
 const HALF_TURN: Point = Point { re: -16384, im: 0 };
 
-// Refusal 4: the first place at which a rule of the table fails, or none. A loop that breaks with what it found, since a table test has
-// that form here; and no `find`, since a place is tested only where those before it passed.
+// Refusal 4: the first place at which a rule of the table fails, or none. A loop that breaks with the first such place or with none, the form that
+// document 01 asks of a table test; and no `find`, since a place is tested only where those before it passed.
 pub fn judge_table(table: &[i32]) -> Option<usize>
     ensures { result ≡ bad_pair table.now }
 {

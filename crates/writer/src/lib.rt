@@ -22,7 +22,8 @@ fn size_of(v: u32) -> usize
     size
 }
 
-// Writes v from place p of out on, and answers the place behind it. Without room for all of it nothing is written.
+// Writes v from place p of out on, and answers the place behind it: a place and not a shorter slice, since the next number goes there, and a
+// caller knows by it how much was written. Without room for all of it nothing is written.
 pub fn put_number(out: &mut [u8], p: usize, v: u32) -> Result<usize, NoRoom>
     ensures { PutOutcome v p out.old result out.new }
 {
@@ -30,7 +31,7 @@ pub fn put_number(out: &mut [u8], p: usize, v: u32) -> Result<usize, NoRoom>
     if out.len() < end {
         return Err(NoRoom);
     }
-    // By place, since of a part that was lent to an iterator only the length is known afterwards.
+    // By place, since of a part that was lent to an iterator only the length is known afterwards. Each group fits a byte, so `as` loses nothing.
     let last = end - 1;
     let mut rest = v;
     for q in p..last {
