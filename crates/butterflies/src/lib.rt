@@ -46,8 +46,9 @@ impl Places for Residues {
     ghost laws = { residue_places };
 }
 
-// The steps: of schedules 1, 2 and 3; of schedules 4 and 5; and of the inverse. Three types, since they differ in `wing` and `pair`; the
-// rest, which is alike, a trait asks of each. They hold a lent table, which nothing compares or prints, so they derive no more than this.
+// The steps: of schedules 1, 2 and 3; of schedules 4 and 5; and of the inverse. Three types, since they differ in `wing`, in `pair` and in why
+// values stay below m; the rest, which is alike, the trait asks of each. They hold a lent table, which nothing compares or prints, so they derive
+// no more than this.
 #[derive(Clone, Copy)]
 pub struct Frequency<'a>(pub Roots<'a>);
 

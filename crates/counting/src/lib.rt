@@ -42,7 +42,8 @@ pub fn multiple(k: usize, s: usize) -> usize
     k >> s << s
 }
 
-// Counting with the low s bits of k reversed, below bit n - 1: from the top down ones become zeros, and the first zero a one.
+// Counting with the low s bits of k reversed, below bit n - 1: from the top down ones become zeros, and the first zero a one. Bit by bit, since
+// it ends at the first zero; e, k, n and s are the trait's.
 fn reversed(e: usize, k: usize, n: usize, s: usize) -> usize
     requires s_lt_n { (s < n) × (n ≤ 12) × (k < 2048) }
     requires e_value { e ≡ 2 ^ (n - suc s) * rev s k }

@@ -1,5 +1,5 @@
 // `dft`: reads a request from standard input and prints its answer. What lies behind the first 65,536 bytes changes nothing: the theorem
-// `printed_begun` of `reading` says so of all that lies behind the first 30,736.
+// `printed_begun` of `reading` says so of all that lies behind the first 30,736. There is no heap, so the memory is of one size.
 #![tactic(auto)]
 
 ghost use Rattle.std.specs.Prelude.{◌≡◌, length, take, OnOk, IfOk, IfSome};

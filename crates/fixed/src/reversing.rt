@@ -1,4 +1,4 @@
-// Bit reversal of pairs.
+// Bit reversal of pairs. Over residues the call stands too: its length is another, and C has two names.
 ghost use Rattle.answer.specs.Choice.{answered};
 ghost use Rattle.fixed.specs.Outcomes.{ReverseOutcome};
 

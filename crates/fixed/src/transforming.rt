@@ -1,4 +1,4 @@
-// The transform.
+// The transform: C's parameters, as in all calls. Over residues there is a modulus too, so the call stands there as well.
 ghost use Rattle.answer.specs.Choice.{answered};
 ghost use Rattle.fixed.specs.Outcomes.{TransformOutcome};
 

@@ -45,7 +45,7 @@ fn judge_samples(buf: &[i32]) -> Option<usize>
     buf.iter().position(|part| !in_range(*part))
 }
 
-// Whether scratch is as long as the data, where it counts for the schedule.
+// Whether scratch is as long as the data, where it counts for the schedule: over residues it counts for two of them, so this stands there too.
 #[tactic(auto, unfolding(crate::specs::Verdicts::scratch_fits))]
 fn scratch_fits(schedule: Schedule, scratch: usize, len: usize) -> bool
     ensures { result ≡ scratch_fits (number_of schedule) scratch len }
@@ -54,7 +54,7 @@ fn scratch_fits(schedule: Schedule, scratch: usize, len: usize) -> bool
 }
 
 // The transform: 7, 1, 6, 3, 4, 5; over residues the order has a modulus in it, so it stands there too. The schedule comes as C's number and is
-// judged here. What passes is its schedule and its n.
+// judged here. What passes is its schedule and its n, which the call takes apart in the same line.
 #[tactic(auto, unfolding(crate::specs::Verdicts::transform_verdict))]
 pub fn judge_transform(
     schedule: u32,

@@ -3,7 +3,7 @@ ghost use Rattle.fixed_judgement.specs.Schedules.{Numbered};
 
 use answer::Refusal;
 
-// The three schedules in fixed point, by number from 1.
+// The three schedules in fixed point, by number from 1. Over residues there are five, another type.
 #[derive(Clone, Copy, Debug, PartialEq, Eq)]
 pub enum Schedule {
     Columns,

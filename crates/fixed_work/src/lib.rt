@@ -17,7 +17,8 @@ use fixed_judgement::Schedule;
 use scan_stages::{Points, Rounded};
 
 // All n stages of the schedule: one of three, over points. The table is a `Rounded` from here on: `Scanned`, of the table with its scan, says what
-// that type asks.
+// that type asks; n stands beside it, since it is the data's as well. The `match` is where the schedule's number becomes its stages: over residues it
+// has five.
 pub fn do_schedule(
     schedule: Schedule,
     buf: &mut [i32],

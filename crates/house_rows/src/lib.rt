@@ -9,6 +9,7 @@ use answer::{Answer, Refusal};
 use residues::Residue;
 
 // "The modulus together with its twelve roots, one per length": the root for 2^n stands at place n - 1.
+// C's struct: any numbers can come in it, and `house` judges them.
 #[repr(C)]
 #[derive(Clone, Copy, Debug, PartialEq, Eq)]
 pub struct Setting {

@@ -19,7 +19,7 @@ ghost use Rattle.scan_stages.specs.Scans.{Scanned};
 use residues::{Modulus, Roots};
 
 // All n stages of the schedule, over residues. The parameters are C's: a number for the schedule, a table beside its modulus; so a clause says of
-// them what `Modulus` and `Roots` say of themselves.
+// them what `Modulus` and `Roots` say of themselves. In fixed point there is no modulus, so each carrier has a kernel.
 #[unsafe(no_mangle)]
 pub extern "C" fn fdr_modular_kernel(
     schedule: u32,

@@ -1,5 +1,6 @@
 // What `dft` prints: "number and place and, on success, the N results in buffer order, with single spaces and a newline". The line is
-// made from its end, so that no digit is counted before it is written.
+// made from its end, so that no digit is counted before it is written: what writes answers the
+// place where it begins.
 #![tactic(auto)]
 
 ghost use Rattle.std.specs.Prelude.{◌≡◌, ◌∷◌, ◌+◌, ◌*◌, ◌≤◌, length, take, drop, OnOk};

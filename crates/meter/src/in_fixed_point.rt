@@ -1,4 +1,4 @@
-// The calls in fixed point.
+// The calls in fixed point. Numbers as C gives them; where the other carrier has such a call, C has two names.
 ghost use Rattle.fixed.specs.Outcomes.{TransformOutcome, ReverseOutcome};
 ghost use Rattle.sine.specs.Filling.{FillOutcome};
 ghost use Rattle.tables.specs.Acceptance.{AcceptOutcome};

@@ -1,4 +1,5 @@
-// The calls over residues, and house tables.
+// The calls over residues, and house tables. Numbers, and a table beside its modulus, as C gives them; where the other carrier has such a call, C
+// has two names.
 ghost use Rattle.house.specs.Filling.{FillOutcome};
 ghost use Rattle.house_rows.specs.Settings.{SettingOutcome};
 ghost use Rattle.modular.specs.Outcomes.{AcceptOutcome, TransformOutcome, StageOutcome, InverseOutcome, ReverseOutcome};

@@ -1,4 +1,4 @@
-// Acceptance of a lent table, alone.
+// Acceptance of a lent table, alone: C's parameters, as in all calls.
 ghost use Rattle.std.specs.Prelude.{◌≡◌};
 ghost use Rattle.answer.specs.Choice.{answered};
 ghost use Rattle.modular_judgement.specs.Verdicts.{accept_verdict};

@@ -1,4 +1,4 @@
-// The inverse, and bit reversal.
+// The inverse, and bit reversal: C's parameters, as in all calls.
 ghost use Rattle.answer.specs.Choice.{answered};
 ghost use Rattle.modular.specs.Outcomes.{InverseOutcome, ReverseOutcome};
 

@@ -1,4 +1,4 @@
-// Single stages.
+// Single stages: C's parameters, as in all calls.
 ghost use Rattle.answer.specs.Choice.{answered};
 ghost use Rattle.modular.specs.Outcomes.{StageOutcome};
 

@@ -1,4 +1,4 @@
-// The whole transform.
+// The whole transform: C's parameters, as in all calls. In fixed point there is no modulus, so the call stands there too.
 ghost use Rattle.answer.specs.Choice.{answered};
 ghost use Rattle.modular.specs.Outcomes.{TransformOutcome};
 

@@ -1,5 +1,6 @@
 // What the calls over residues judge, in document 01's order. Nothing here writes. The parameters are the calls' own, as C gives them; what is
-// answered with a table says each time that it is the one that was lent, since a definition of that would have four arguments.
+// answered with a table says each time that it is the one that was lent, since no definition of that is shorter. A tuple is answered, which the call
+// takes apart in the same line.
 #![tactic(auto)]
 
 ghost use Rattle.std.specs.Prelude.{◌≡◌, ◌/◌, ◌≤◌, length, Some, IfOk};

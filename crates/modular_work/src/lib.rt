@@ -1,4 +1,5 @@
-// The work of the calls over residues, on what was judged. n stands beside the table, since it is the data's as well.
+// The work of the calls over residues, on what was judged. n stands beside the table, since it is the data's as well; and that the data lies below m
+// is a clause of each, since a type around what is written would be taken apart at every step.
 #![tactic(auto)]
 
 ghost use Rattle.std.specs.Prelude.{true, ◌≡◌, ◌-◌, ◌^◌, ◌≤◌, ◌<◌, length};
@@ -15,7 +16,8 @@ use counting::{Multiples, Reversals};
 use modular_judgement::{Schedule, Single};
 use residues::Roots;
 
-// All n stages of the schedule: one of five, over residues. In fixed point there are three, so each carrier has its own match.
+// All n stages of the schedule: one of five, over residues. In fixed point there are three, so each carrier has its own match, where the schedule's
+// number becomes its stages.
 pub fn do_schedule(schedule: Schedule, buf: &mut [u32], roots: Roots, n: usize, scratch: &mut [u32])
     requires below { Below roots.modulus.value buf.old }
     requires le_n { (1 ≤ n) × (length buf.old ≡ 2 ^ n) × (length roots.table.now ≡ 2 ^ (n - 1)) }
@@ -38,7 +40,7 @@ pub fn do_schedule(schedule: Schedule, buf: &mut [u32], roots: Roots, n: usize, 
     }
 }
 
-// Stage s of schedule 1 or 2.
+// Stage s of schedule 1 or 2. The `match` is where the schedule's number becomes its stage.
 pub fn do_stage(
     schedule: Single,
     s: usize,

@@ -14,7 +14,8 @@ pub struct Point {
 }
 
 // The step of a stage on a pair of places that hold a and b, where t is the table's pair at the exponent. Sizes are asked of callers, here and
-// below: a number of 32 bits is a point's part only while it is small, and which bound it keeps changes from stage to stage.
+// below: a number of 32 bits is a point's part only while it is small, and which bound it keeps changes from stage to stage. A turn is
+// a point that is read out of the lent table at every step: as a type of its own it would be made anew each time.
 pub fn pair(t: Point, a: Point, b: Point) -> (Point, Point)
     requires turn { Turn t }
     requires sized { Sized (2 ^ 22) a × Sized (2 ^ 22) b }
@@ -97,7 +98,7 @@ fn reduced(z: i64) -> i32
     ((z + 16384) >> 15) as i32
 }
 
-// Point p of a buffer.
+// Point p of a buffer. Points lie in it as C lends them, two numbers each.
 pub fn point_at(buf: &[i32], p: usize) -> Point
     requires { p + p + 1 < length buf.now }
     ensures { result ≡ point buf.now p }

@@ -1,4 +1,5 @@
-// A request as it is read: several numbers, one behind the other; the table, the samples, and their transform.
+// A request as it is read: several numbers, one behind the other; the table, the samples, and their transform. m and schedule are numbers
+// throughout, since the transform judges them; that the schedule and the length were judged before is a clause.
 #![tactic(auto)]
 
 ghost use Rattle.std.specs.Prelude.{◌≡◌, true, ◌/◌, ◌≤◌, length, take};
@@ -64,7 +65,8 @@ fn with_head(
 }
 
 // The same with memory for the longest request, of which n numbers are used. One parameter each: a struct of a head and of three lent
-// buffers would be taken apart again at once. Schedule and n stay numbers, which the transform judges itself.
+// buffers would be taken apart again at once. n becomes the length of
+// what the transform judges.
 pub fn within(
     s: &[u8],
     m: u32,

@@ -27,7 +27,7 @@ pub struct Modulus {
     ghost permitted: { Permitted value },
 }
 
-// Whether m is odd, from 3 to 2^31 - 1.
+// Whether m is odd, from 3 to 2^31 - 1: beside `try_from`, since its promise may not go.
 #[tactic(auto, unfolding(crate::specs::Moduli::permits))]
 pub fn permitted(m: u32) -> bool
     ensures { result ≡ permits m }
@@ -100,8 +100,8 @@ pub struct Roots<'a> {
     ghost few: { length table.now ≤ 2048 },
 }
 
-// The root to the e: "an exponent e from N/2 to N - 1 means minus the entry at e - N/2". Of any table below m, beside its modulus: `Roots` ask for
-// 2,048 entries at most, and this doesn't.
+// The root to the e: "an exponent e from N/2 to N - 1 means minus the entry at e - N/2". Of any table below m, beside its modulus: what this asks
+// may not grow, and `Roots` ask for 2,048 entries at most.
 pub fn lookup(table: &[u32], e: Exponent, m: Modulus) -> Residue
     requires below { Below m.value table.now }
     requires e_in_bounds { e.0 < length table.now + length table.now }

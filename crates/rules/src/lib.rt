@@ -23,7 +23,7 @@ pub fn sized(p: Point) -> bool
     p.im >= 0 && p.re.unsigned_abs() + p.im.unsigned_abs() <= 23171
 }
 
-// Whether p times x differs from 16,384 q by at most 32,768 in each part.
+// Whether p times x differs from 16,384 q by at most 32,768 in each part. Turns are points here, as in `points`.
 #[tactic(auto, unfolding(crate::specs::Pairs::follows))]
 pub fn follows(x: Point, p: Point, q: Point) -> bool
     requires { Turn x × Turn p × Turn q }

@@ -10,7 +10,8 @@ use butterflies::{Back, Residues};
 use residues::{Modulus, Residue, Roots};
 
 // "The inverse takes what schedules 1, 2, 3 and 5 leave, together with the forward table, and leaves the samples in order": T1 with
-// x^(-e), and then every place times 1/N. n stands beside the table, since it is the data's as well.
+// x^(-e), and then every place times 1/N. n and `Below` stand beside the table, since they are the
+// data's, which is written.
 pub fn invert(buf: &mut [u32], roots: Roots, n: usize)
     requires below { Below roots.modulus.value buf.old }
     requires le_n { (1 ≤ n) × (length buf.old ≡ 2 ^ n) × (length roots.table.now ≡ 2 ^ (n - 1)) }

@@ -13,7 +13,7 @@ use points::Point;
 use residues::Exponent;
 use stages::{Places, Step};
 
-// Points in a buffer of numbers, two a place.
+// Points in a buffer of numbers, two a place, as C lends them.
 pub struct Points;
 
 impl Places for Points {

@@ -1,4 +1,4 @@
-// The sine table for 4,096 points.
+// The sine table for 4,096 points: numbers, two a point, as a table is lent.
 ghost use Rattle.std.specs.Prelude.{◌≡◌};
 ghost use Rattle.sine.specs.Constant.{sine};
 
@@ -313,7 +313,7 @@ const SINE: [i32; 4096] = [
     -16384, 50, -16384, 25,
 ];
 
-// The constant itself.
+// The constant itself, and not lent, so that its promise is of a value.
 pub fn numbers() -> [i32; 4096]
     ensures { result ≡ sine }
 {

@@ -1,4 +1,4 @@
-// The filling of a lent table from the sine table.
+// The filling of a lent table from the sine table; over residues a table is worked out from a setting.
 ghost use Rattle.std.specs.Prelude.{◌≡◌, length};
 ghost use Rattle.answer.specs.Choice.{answered, if_done};
 ghost use Rattle.answer.specs.Lengths.{log_of};

@@ -1,4 +1,4 @@
-// Acceptance of a lent table, alone.
+// Acceptance of a lent table, alone. Over residues a modulus is judged first, so the call stands there too.
 ghost use Rattle.std.specs.Prelude.{◌≡◌};
 ghost use Rattle.answer.specs.Choice.{answered};
 ghost use Rattle.tables.specs.Acceptance.{fixed_accept_verdict, AcceptOutcome};

@@ -1,4 +1,4 @@
-// The judgement of a lent table by its rules.
+// The judgement of a lent table by its rules; over residues the rules are others.
 ghost use Rattle.std.specs.Prelude.{◌≡◌, ◌/◌, true, length};
 ghost use Rattle.answer.specs.Search.{Passed};
 ghost use Rattle.points.specs.Interleaved.{point};
