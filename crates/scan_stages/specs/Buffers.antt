@@ -82,9 +82,6 @@ module _ {l : List ℤ} {n : ℕ} (whole : Whole l n) (a k : ℕ) (room : a + k 
   pub points_lent : points (mid_of (a + a) (k + k) l) ≡ mid_of a k (points l)
   points_lent = points_by lent_whole lent_points.long (λ p h. lent_points.here p h ∙ points-at whole (a + p) ∙ sym (lent_point p h))
 
-  pub lent_read : (λ p. get_or (mid_of a k (points l)) p origin) ≡ point (mid_of (a + a) (k + k) l)
-  lent_read = rw (← points_lent) (points_read lent_whole)
-
   -- It has come back.
   module _ {part : List ℤ} (same : Whole part k) where
     inside : a + k ≤ length (points l)
