@@ -1,19 +1,12 @@
 -- The exponents of a stage lie in the table, and follow each other from pair to pair.
-use Prim.Native.Nat.{ℕ, zero, suc, ◌-◌, ◌*◌, ◌/◌, ◌%◌, ◌^◌, ◌<◌, ◌≤◌}
-use mathlib.Core.Path.{◌≡◌, refl}
-use mathlib.Core.Logic.{⊎_elim}
-use native.Mathlib.Nat.{mul-zero, mul-lt-mul_of_pos_left, mod-eq_of_lt, div-add-mod'}
+use Prim.Native.Nat.{ℕ, suc, ◌-◌, ◌*◌, ◌/◌, ◌%◌, ◌^◌, ◌<◌, ◌≤◌}
+use mathlib.Core.Path.{◌≡◌}
+use native.Mathlib.Nat.{mod-eq_of_lt, div-add-mod'}
 use native.Mathlib.Omega.{arith}
-use lib.Pow.{pow_pos, pow_mono}
-use Rattle.answer.specs.Cases.{lt_or_ge}
-use Rattle.fourier.specs.Sizes.{half_buffer}
-use Rattle.fourier.specs.Reverse.{rev, rev_lt}
+use lib.Pow.{pow_mono}
+use Rattle.fourier.specs.Reverse.{rev}
 use Rattle.counting.specs.Exponents.{reversals}
 use Rattle.counting.proofs.Reversal.{rev_mod}
-
--- "N = 2^n, from 2 to 4,096."
-pub twelve : (n : ℕ) → 2 ^ (n - 1) ≤ 2048 → n ≤ 12
-twelve n h = ⊎_elim (λ l. let k : 2 ^ 12 ≤ 2 ^ (n - 1) = pow_mono {i = 12} (omega arith) in absurd (omega arith)) (λ l. l) (lt_or_ge 12 n)
 
 pub half_small : (n : ℕ) → n ≤ 12 → 2 ^ (n - 1) ≤ 2048
 half_small n l = pow_mono {j = 11} (omega arith)

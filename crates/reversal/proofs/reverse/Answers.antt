@@ -1,4 +1,4 @@
-use Rattle.std.specs.Prelude.{◌^◌, ◌<◌, refl}
+use Rattle.std.specs.Prelude.{refl}
 use Rattle.std.proofs.Common.{◌∙◌, length-set, arith}
 use Rattle.answer.proofs.Lengths.{shifted}
 use Rattle.answer.proofs.Lists.{listed}
