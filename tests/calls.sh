@@ -8,6 +8,10 @@ trap 'rm -rf "$made"' EXIT
 trap 'exit 130' INT TERM
 . tests/meter/build.sh
 
+# README: the library needs C's memset and nothing else from outside
+needed=$(nm -u crates/meter/out/libmeter.a | sed -n 's/^ *U //p' | sort -u | tr '\n' ' ')
+[ "$needed" = 'memset ' ] || { echo "crates/meter/out/libmeter.a needs from outside: $needed"; exit 1; }
+
 if command -v g++ >/dev/null; then
     g++ -Wall -Wextra -Werror -fsyntax-only -x c++ include/fandrute.h || exit 1
 else

@@ -62,8 +62,19 @@ pub fn through_scratch<P: Places, S: Step<P>, E: Exponents>(
     ensures scratch_after { scratch.new ≡ zeros P.blank (length scratch.old) }
 {
     stage::<P, S, E>(buf, scratch, by, n, s);
-    buf.copy_from_slice(scratch);
+    copy::<P>(scratch, buf);
     P::clear(scratch);
+}
+
+// What stands in one buffer, to the other. Number by number: `copy_from_slice` would be a call of C's `memmove`, which an archive for C has to
+// get from outside.
+fn copy<P: Places>(from: &[P::Number], to: &mut [P::Number])
+    requires { length to.old ≡ length from.now }
+    ensures { to.new ≡ from.now }
+{
+    for p in 0..from.len() {
+        to[p] = from[p];
+    }
 }
 
 // Stage s from one buffer into the other: places k and k + N/2 give places 2k and 2k + 1. By place, since the four lie apart in two buffers.
