@@ -8,7 +8,7 @@ ghost use Rattle.house_rows.specs.Settings.{root_for};
 ghost use Rattle.house.specs.Filling.{root_of_table, verdict, FillOutcome};
 
 use answer::{Answer, Refusal};
-pub use house_rows::{Setting, Yielded, setting_of};
+pub use house_rows::{Setting, Yielded, setting_of, try_setting_of};
 use residues::{Modulus, Residue};
 
 // Fills a table with the powers of the setting's root for N, where the table has N/2 entries; in fixed point a table is copied from a constant.

@@ -72,11 +72,24 @@ const ROWS: [Setting; 3] = [
     },
 ];
 
-// The setting of a house row: 9 for another row. The row is C's number, judged here; `as`, since a `usize` has no `From` of a `u32`, and is wider.
-pub fn setting_of(row: u32) -> Result<Setting, Refusal>
+// The setting of a house row: 9 for another row, and then a setting of all zeros.
+pub fn setting_of(row: u32) -> Yielded
+    ensures { SettingOutcome row result.answer result.setting }
+{
+    Yielded::from(try_setting_of(row))
+}
+
+// The same, with the refusal as it is. The row is C's number, judged here. Row by row: of a constant that is indexed by a variable the compiler makes
+// a copy at each call.
+pub fn try_setting_of(row: u32) -> Result<Setting, Refusal>
     ensures { SettingOutcome row (answered result) (setting_or_zeros result) }
 {
-    ROWS.get(row as usize).copied().ok_or(Refusal::Row)
+    match row {
+        0 => Ok(ROWS[0]),
+        1 => Ok(ROWS[1]),
+        2 => Ok(ROWS[2]),
+        _ => Err(Refusal::Row),
+    }
 }
 
 // What a row yields, as C sees it: the answer with the setting, which is all zeros where there is none.

@@ -67,7 +67,7 @@ pub extern "C" fn fdr_modular_reverse(buf: &mut [u32]) -> Answer
 pub extern "C" fn fdr_house_row(row: u32) -> Yielded
     ensures { SettingOutcome row result.answer result.setting }
 {
-    Yielded::from(house::setting_of(row))
+    house::setting_of(row)
 }
 
 // A table filled from a setting: 2, 3, 4.
