@@ -1,7 +1,7 @@
 // Points: complex numbers in fixed point. The step on two points, and points in a lent buffer.
 #![tactic(auto)]
 
-ghost use Rattle.std.specs.Prelude.{◌≡◌, ◌+◌, ◌*◌, ◌^◌, ◌≤◌, ◌<◌, nat_abs, ◌+ℤ◌, length};
+ghost use Rattle.std.specs.Prelude.{◌≡◌, ◌+◌, ◌*◌, ◌^◌, ◌≤◌, ◌<◌, nat_abs, ◌+ℤ◌, ◌*ℤ◌, length};
 ghost use Rattle.points.specs.Interleaved.{point, put};
 ghost use Rattle.points.specs.Rounding.{half_up};
 ghost use Rattle.points.specs.Steps.{plus, minus, times, turned, each_part, Sized, Turn};
@@ -68,7 +68,7 @@ impl Point {
         ensures value { result ≡ (times self d).re }
         ensures size { nat_abs result ≤ 23171 * 2 ^ 23 }
     {
-        i64::from(self.re) * i64::from(d.re) - i64::from(self.im) * i64::from(d.im)
+        product(self.re, d.re) - product(self.im, d.im)
     }
 
     // The imaginary part of T d, where this is T.
@@ -78,8 +78,15 @@ impl Point {
         ensures value { result ≡ (times self d).im }
         ensures size { nat_abs result ≤ 23171 * 2 ^ 23 }
     {
-        i64::from(self.re) * i64::from(d.im) + i64::from(self.im) * i64::from(d.re)
+        product(self.re, d.im) + product(self.im, d.re)
     }
+}
+
+// c d, whole.
+fn product(c: i32, d: i32) -> i64
+    ensures { result ≡ c *ℤ d }
+{
+    i64::from(c) * i64::from(d)
 }
 
 // A part of (a + b)/2.

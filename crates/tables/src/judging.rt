@@ -45,7 +45,9 @@ fn linked(table: &[i32], place: usize) -> bool
     if place == 0 {
         rules::starts(here)
     } else {
-        rules::follows(entry(table, 1), entry(table, place - 1), here)
+        let x = entry(table, 1);
+        let before = entry(table, place - 1);
+        rules::follows(x, before, here)
     }
 }
 

@@ -7,9 +7,9 @@ pub overflow_add-result : goal.overflow_add-result
 overflow_add-result c =
     let h = imaginary_held c.requires.turn c.requires.sized in
     let r = real_held c.requires.turn c.requires.sized in
-    rw (c.from.ensures, c.from-2.ensures, c.from-3.ensures, c.from-4.ensures) (search (rules, fits_wide))
+    rw (c.product.ensures, c.product-2.ensures) (search (rules, fits_wide))
 
 pub returns : goal.returns
 returns c =
     let h = imaginary_held c.requires.turn c.requires.sized in
-    rw (c.from.ensures, c.from-2.ensures, c.from-3.ensures, c.from-4.ensures) (record { value = search (rules, fits_wide); size = search (rules, fits_wide) })
+    rw (c.product.ensures, c.product-2.ensures) (record { value = search (rules, fits_wide); size = search (rules, fits_wide) })

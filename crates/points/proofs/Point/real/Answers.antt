@@ -6,9 +6,9 @@ use Rattle.points.proofs.Point.real.Goals as goal
 pub overflow_sub-result : goal.overflow_sub-result
 overflow_sub-result c =
     let h = real_held c.requires.turn c.requires.sized in
-    rw (c.from.ensures, c.from-2.ensures, c.from-3.ensures, c.from-4.ensures) (search (rules, fits_wide))
+    rw (c.product.ensures, c.product-2.ensures) (search (rules, fits_wide))
 
 pub returns : goal.returns
 returns c =
     let h = real_held c.requires.turn c.requires.sized in
-    rw (c.from.ensures, c.from-2.ensures, c.from-3.ensures, c.from-4.ensures) (record { value = search (rules, fits_wide); size = search (rules, fits_wide) })
+    rw (c.product.ensures, c.product-2.ensures) (record { value = search (rules, fits_wide); size = search (rules, fits_wide) })

@@ -17,11 +17,11 @@ follows-requires c =
     let place = c.args.place in
     let later : 0 < place = omega arith in
     let here = sized-turn _ c.requires.here in
-    let x : Turn c.entry.result = rw c.entry.ensures (second_turn h t place later c.requires.before here) in
-    let p : Turn c.entry-else-place-eq0.result = rw c.entry-else-place-eq0.ensures (passed_turn h t c.requires.before (place - 1) (omega arith)) in
+    let x : Turn c.entry-x.result = rw c.entry-x.ensures (second_turn h t place later c.requires.before here) in
+    let p : Turn c.entry-before.result = rw c.entry-before.ensures (passed_turn h t c.requires.before (place - 1) (omega arith)) in
     let q : Turn c.entry-here.result = rw c.entry-here.ensures here in
     search rules
 
 pub returns-else-place-eq0 : goal.returns-else-place-eq0
 returns-else-place-eq0 c =
-    c.follows.ensures ∙ rw (c.entry.ensures, c.entry-else-place-eq0.ensures, c.entry-here.ensures) (sym (linked_later _ _ _ (omega arith)))
+    c.follows.ensures ∙ rw (c.entry-x.ensures, c.entry-before.ensures, c.entry-here.ensures) (sym (linked_later _ _ _ (omega arith)))
